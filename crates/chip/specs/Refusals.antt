@@ -1,0 +1,46 @@
+-- Document 01, "Refusal numbers": the number of each refusal, and what comes with it.
+use Prim.Native.Nat.{ℕ}
+use Rattle.chip.specs.declared.BadKind.{BadKind}
+use Rattle.chip.specs.declared.BadKind.the-variants.{Factory, Late}
+use Rattle.chip.specs.declared.Half.{Half}
+use Rattle.chip.specs.declared.Half.the-variants.{First, Second}
+use Rattle.chip.specs.declared.Refusal.{Refusal}
+use Rattle.chip.specs.declared.Refusal.the-variants.{Length, Range, BadBlock, Tag, Magic, Unrepairable, NoCopy, SeveralCopies, Opposite, NotSettled, NoTarget}
+
+-- the number in the table
+abbrev pub refusalNumber : Refusal → ℕ
+refusalNumber Length = 1
+refusalNumber Range = 2
+refusalNumber (BadBlock k) = 3
+refusalNumber Tag = 4
+refusalNumber Magic = 5
+refusalNumber (Unrepairable h) = 6
+refusalNumber NoCopy = 7
+refusalNumber SeveralCopies = 8
+refusalNumber Opposite = 9
+refusalNumber NotSettled = 10
+refusalNumber NoTarget = 11
+
+-- 3 with factory (1) or late (2)
+abbrev pub badNumber : BadKind → ℕ
+badNumber Factory = 1
+badNumber Late = 2
+
+-- 6 with the half, 1 or 2
+abbrev pub halfNumber : Half → ℕ
+halfNumber First = 1
+halfNumber Second = 2
+
+-- what comes with the number; 0 where it comes alone
+abbrev pub refusalDetail : Refusal → ℕ
+refusalDetail Length = 0
+refusalDetail Range = 0
+refusalDetail (BadBlock k) = badNumber k
+refusalDetail Tag = 0
+refusalDetail Magic = 0
+refusalDetail (Unrepairable h) = halfNumber h
+refusalDetail NoCopy = 0
+refusalDetail SeveralCopies = 0
+refusalDetail Opposite = 0
+refusalDetail NotSettled = 0
+refusalDetail NoTarget = 0

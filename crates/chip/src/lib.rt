@@ -1,0 +1,208 @@
+// The two kinds of chip with their sizes, the numbers that must not be mixed, and the refusals.
+ghost use mathlib.Core.Path.{_≡_};
+ghost use Rattle.chip.specs.Boot.{pathOf, bootOf};
+ghost use Rattle.chip.specs.Large.{chipOf, bitmapBytes, pagesOf, regionPages, regionBytes};
+ghost use Rattle.chip.specs.Refusals.{refusalNumber, refusalDetail};
+
+// The small chip: 512 data bytes and 16 spare bytes a page, in two halves with a code of three bytes each.
+pub struct SmallChip;
+
+impl SmallChip {
+    pub const PAGE: usize = 512;
+
+    pub const SPARE: usize = 16;
+
+    pub const HALF: usize = 256;
+
+    pub const CODE: usize = 3;
+}
+
+// The large chip: 2,048 data bytes and 64 OOB bytes a page; its number of blocks, and how many of the last hold the tables.
+pub struct LargeChip {
+    pub blocks: u32,
+    pub region: u8,
+}
+
+// A large chip, or the refusal of its number of blocks.
+pub enum ChipAnswer {
+    Chip(LargeChip),
+    Refused(Refusal),
+}
+
+impl LargeChip {
+    pub const PAGE: usize = 2048;
+
+    pub const OOB: usize = 64;
+
+    pub const PAGE_WITH_OOB: usize = LargeChip::PAGE + LargeChip::OOB;
+
+    pub const REGION: u8 = 4;
+
+    // The chip of n blocks: a multiple of 4 from 8 to 32,768.
+    pub fn new(n: u64) -> ChipAnswer
+        ensures { λ r. ⌜ r ≡ chipOf n ⌝ }
+    {
+        if n % 4 != 0 {
+            return ChipAnswer::Refused(Refusal::Range);
+        }
+        if n < 8 {
+            return ChipAnswer::Refused(Refusal::Range);
+        }
+        if 32768 < n {
+            return ChipAnswer::Refused(Refusal::Range);
+        }
+        ChipAnswer::Chip(LargeChip {
+            blocks: n as u32,
+            region: LargeChip::REGION,
+        })
+    }
+
+    // The bytes of the bitmap: two bits a block.
+    pub fn bitmap_bytes(self) -> usize
+        ensures { λ r. ⌜ r ≡ bitmapBytes self ⌝ }
+    {
+        (self.blocks / 4) as usize
+    }
+
+    // P: the pages that the bitmap fills.
+    pub fn pages(self) -> usize
+        ensures { λ r. ⌜ r ≡ pagesOf self ⌝ }
+    {
+        ((self.blocks / 4 + 2047) / 2048) as usize
+    }
+
+    // The pages of a region image; a status byte comes with each.
+    pub fn region_pages(self) -> usize
+        ensures { λ r. ⌜ r ≡ regionPages self ⌝ }
+    {
+        (self.region as usize) * (((self.blocks / 4 + 2047) / 2048) as usize)
+    }
+
+    // The bytes of a region image.
+    pub fn region_bytes(self) -> usize
+        ensures { λ r. ⌜ r ≡ regionBytes self ⌝ }
+    {
+        (self.region as usize)
+            * (((self.blocks / 4 + 2047) / 2048) as usize)
+            * LargeChip::PAGE_WITH_OOB
+    }
+}
+
+// The number of a boot block, as a path tells it. Never a chip block's number.
+pub struct BootNumber(pub u32);
+
+// The number of a block on its chip.
+pub struct ChipBlock(pub u32);
+
+// The number of a block in the table region, from 0, lowest first.
+pub struct RegionBlock(pub u8);
+
+// The path of a boot page, or its refusal.
+pub enum PathAnswer {
+    Path(u32),
+    Refused(Refusal),
+}
+
+// A path's boot number and generation, or its refusal.
+pub enum BootAnswer {
+    Boot(BootNumber, u8),
+    Refused(Refusal),
+}
+
+impl BootNumber {
+    // The path of this boot number, below 2^24, and a generation from 0 to 3.
+    pub fn path(self, generation: u8) -> PathAnswer
+        ensures { λ r. ⌜ r ≡ pathOf (self .0) generation ⌝ }
+    {
+        if 16777216 <= self.0 {
+            return PathAnswer::Refused(Refusal::Range);
+        }
+        if 3 < generation {
+            return PathAnswer::Refused(Refusal::Range);
+        }
+        PathAnswer::Path(4 * self.0 + (generation as u32))
+    }
+
+    // The boot number and the generation of a path below 2^26.
+    pub fn of_path(path: u32) -> BootAnswer
+        ensures { λ r. ⌜ r ≡ bootOf path ⌝ }
+    {
+        if 67108864 <= path {
+            return BootAnswer::Refused(Refusal::Range);
+        }
+        BootAnswer::Boot(BootNumber(path / 4), (path % 4) as u8)
+    }
+}
+
+// What a bad status byte tells of its block.
+pub enum BadKind {
+    Factory,
+    Late,
+}
+
+// The halves of a small page: data bytes 0 to 255, and 256 to 511.
+pub enum Half {
+    First,
+    Second,
+}
+
+// The refusals of document 01.
+pub enum Refusal {
+    Length,
+    Range,
+    BadBlock(BadKind),
+    Tag,
+    Magic,
+    Unrepairable(Half),
+    NoCopy,
+    SeveralCopies,
+    Opposite,
+    NotSettled,
+    NoTarget,
+}
+
+impl Refusal {
+    // Document 01's number of a refusal.
+    pub fn number(self) -> u8
+        ensures { λ r. ⌜ r ≡ refusalNumber self ⌝ }
+    {
+        match self {
+            Refusal::Length => 1,
+            Refusal::Range => 2,
+            Refusal::BadBlock(_) => 3,
+            Refusal::Tag => 4,
+            Refusal::Magic => 5,
+            Refusal::Unrepairable(_) => 6,
+            Refusal::NoCopy => 7,
+            Refusal::SeveralCopies => 8,
+            Refusal::Opposite => 9,
+            Refusal::NotSettled => 10,
+            Refusal::NoTarget => 11,
+        }
+    }
+
+    // What comes with the number: of 3 the kind of bad block, of 6 the half, else 0.
+    pub fn detail(self) -> u32
+        ensures { λ r. ⌜ r ≡ refusalDetail self ⌝ }
+    {
+        match self {
+            Refusal::Length => 0,
+            Refusal::Range => 0,
+            Refusal::BadBlock(k) => match k {
+                BadKind::Factory => 1,
+                BadKind::Late => 2,
+            },
+            Refusal::Tag => 0,
+            Refusal::Magic => 0,
+            Refusal::Unrepairable(h) => match h {
+                Half::First => 1,
+                Half::Second => 2,
+            },
+            Refusal::NoCopy => 0,
+            Refusal::SeveralCopies => 0,
+            Refusal::Opposite => 0,
+            Refusal::NotSettled => 0,
+            Refusal::NoTarget => 0,
+        }
+    }
+}

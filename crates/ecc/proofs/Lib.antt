@@ -1,0 +1,9 @@
+pub mod Runs
+pub mod Sums
+pub mod Folds
+pub mod Codes
+pub mod Stored
+pub mod Counts
+pub mod Verdicts
+pub mod Protection
+pub mod Linear

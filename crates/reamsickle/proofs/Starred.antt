@@ -1,0 +1,28 @@
+-- The starred examples hold: antt computes each. The bytes of a path or a count are those of its protected word.
+-- Assumes nothing.
+use mathlib.Core.List.{List}
+use mathlib.Core.Path.{_≡_, refl, _∙_}
+use Prim.Native.Nat.{ℕ}
+use lib.Count.{ones, onesIn}
+use lib.ListN.{take}
+use Rattle.bits.specs.Bits.{bit, number, parityOf}
+use Rattle.bits.specs.Bytes.{wordBytes}
+use Rattle.chip.specs.Boot.{pathOf}
+use Rattle.ecc.specs.Half.{placeBit, counts, parity, codeBit, codeFrom}
+use Rattle.hamming.specs.Word.{notPowers, houseNumbers, checkBit, checkBits, encoded}
+use Rattle.reamsickle.specs.Examples.{Holds, path, count, countBytes, All, table}
+use Rattle.spare.specs.Tags.{nearest}
+use Rattle.spare.specs.Writing.{spareOf, magicAndCount}
+
+path-bytes : (p : ℕ) (bytes : List ℕ) → wordBytes (encoded p) ≡ bytes → Holds (path p bytes)
+unfolding spareOf
+path-bytes p bytes e page t c = e
+
+count-bytes : (c : ℕ) (bytes : List ℕ) → wordBytes (encoded (magicAndCount c)) ≡ bytes → Holds (count c bytes)
+unfolding spareOf
+count-bytes c bytes e page t p = e
+
+pub starred : All table
+unfolding bit number parityOf ones onesIn pathOf placeBit counts parity codeBit codeFrom notPowers houseNumbers checkBit checkBits encoded nearest
+starred =
+    (refl, (refl, (refl, (refl, (path-bytes 0 _ refl, (path-bytes 1 _ refl, (refl, (path-bytes 6 _ refl, (count-bytes 1 _ refl, (refl, (refl, (refl, tt))))))))))))

@@ -1,0 +1,57 @@
+-- Document 01, "Examples by number": those with a star, as one statement over one table.
+use mathlib.Core.List.{List, [], _∷_}
+use mathlib.Core.Path.{_≡_}
+use Prim.Native.Nat.{ℕ}
+use lib.ListN.{getD, replicate, set, take}
+use Rattle.chip.specs.Boot.{pathOf}
+use Rattle.chip.specs.declared.PathAnswer.the-variants.{Path}
+use Rattle.ecc.specs.Half.{codeOf}
+use Rattle.spare.specs.Tags.{tags, nearest}
+use Rattle.spare.specs.Writing.{spareOf}
+use Rattle.spare.specs.declared.NearestTag.{NearestTag}
+use Rattle.spare.specs.declared.NearestTag.the-variants.{Found, Missing}
+use Rattle.reamsickle.specs.Boundary.{codeBytes}
+
+-- what is given, and what comes of it
+pub data Example : Type 0 where
+  -- a half, and its stored code
+  half : List ℕ → List ℕ → Example
+  -- a boot number and its generation, and their path
+  boot : ℕ → ℕ → ℕ → Example
+  -- a path, and bytes 0-3 of the spare
+  path : ℕ → List ℕ → Example
+  -- a count, and bytes 6, 7, 11, 12 of the spare
+  count : ℕ → List ℕ → Example
+  -- a stored tag byte, and the tag it stands for
+  tag : ℕ → NearestTag → Example
+
+abbrev pub countBytes : List ℕ → List ℕ
+countBytes s = getD s 6 0 ∷ getD s 7 0 ∷ getD s 11 0 ∷ getD s 12 0 ∷ []
+
+-- an example holds; of a path or a count whatever else is written with it
+abbrev pub Holds : Example → Type 0
+Holds (half bytes code) = codeBytes (codeOf bytes) ≡ code
+Holds (boot number generation p) = pathOf number generation ≡ Path p
+Holds (path p bytes) = (page : List ℕ) (t c : ℕ) → take 4 (spareOf page t p c) ≡ bytes
+Holds (count c bytes) = (page : List ℕ) (t p : ℕ) → countBytes (spareOf page t p c) ≡ bytes
+Holds (tag b t) = nearest tags b ≡ t
+
+abbrev pub All : List Example → Type 0
+All [] = Unit {0}
+All (x ∷ xs) = Holds x × All xs
+
+abbrev pub table : List Example
+table =
+    half (replicate 256 0xFF) (0xFF ∷ 0xFF ∷ 0xFF ∷ [])
+    ∷ half (replicate 256 0x00) (0xFF ∷ 0xFF ∷ 0xFF ∷ [])
+    ∷ half (set (replicate 256 0xFF) 0 0xFE) (0xAA ∷ 0xAA ∷ 0xAB ∷ [])
+    ∷ half (set (replicate 256 0xFF) 1 0xFE) (0xA9 ∷ 0xAA ∷ 0xAB ∷ [])
+    ∷ path 0 (0x00 ∷ 0x00 ∷ 0x00 ∷ 0x20 ∷ [])
+    ∷ path 1 (0x00 ∷ 0x00 ∷ 0x00 ∷ 0x63 ∷ [])
+    ∷ boot 1 2 6
+    ∷ path 6 (0x00 ∷ 0x00 ∷ 0x01 ∷ 0xA3 ∷ [])
+    ∷ count 1 (0x56 ∷ 0x00 ∷ 0x00 ∷ 0x62 ∷ [])
+    ∷ tag 0x07 (Found 0x06)
+    ∷ tag 0x00 (Found 0x01)
+    ∷ tag 0x55 Missing
+    ∷ []

@@ -1,0 +1,149 @@
+-- A page is made of its two halves, each kept with its code: a flip of the page is a flip of one half, and where the rest of the spare is
+-- as written, the reading of the page goes by what the two halves tell.
+-- Assumes nothing.
+use mathlib.Core.Bool.{Bool, true, false}
+use mathlib.Core.List.{List, [], _∷_, _++_}
+use mathlib.Core.Path.{_≡_, refl, _∙_, ap, sym}
+use Prim.Native.Nat.{ℕ, _<_, _^_}
+use native.Mathlib.Nat.{zero-add}
+use native.Mathlib.Omega.{arith}
+use borrow.Author.Tests.{eq-eqb}
+use lib.Bits.{bitXor}
+use lib.Count.{ones, onesIn}
+use lib.Dec.{ltb}
+use lib.ListN.{length, getD, length-append, length-set, length-take, length-drop, take-append-drop}
+use lib.Seq.{sets, take-at, drop-at}
+use Rattle.bits.specs.Bytes.{word, byteOf}
+use Rattle.bits.proofs.Bit.{number-lt}
+use Rattle.bits.proofs.Bytes.{flip-left, flip-right}
+use Rattle.bits.proofs.Words.{word-bytes}
+use Rattle.chip.specs.declared.Half.{Half}
+use Rattle.chip.specs.declared.Half.the-variants.{First, Second}
+use Rattle.ecc.specs.declared.Code.{Code}
+use Rattle.ecc.specs.declared.Verdict.{Verdict}
+use Rattle.ecc.specs.declared.Verdict.the-variants.{Clean}
+use Rattle.ecc.specs.Claims.{told}
+use Rattle.ecc.specs.Flips.{Place, dataAt, codeAt, Real, flipCode, Kept, flip, written as kept}
+use Rattle.hamming.specs.declared.Repair.the-variants.{Clean as Unrepaired}
+use Rattle.hamming.specs.Word.{checkBit, checkBits, encoded, decoded}
+use Rattle.hamming.proofs.Protection.{protects}
+use Rattle.spare.specs.declared.PageAnswer.{PageAnswer}
+use Rattle.spare.specs.declared.SpareAnswer.the-variants.{Read}
+use Rattle.spare.specs.declared.SpareFields.{SpareFields}
+use Rattle.spare.specs.Claims.{Page, Writable, written, flipped, Reading, fieldsOf}
+use Rattle.spare.specs.Pages.{codePlace, byVerdicts, pageAnswer, dataBy, dataAfter}
+use Rattle.spare.specs.Reading.{magicOf, countOf, byWords, spareAnswer}
+use Rattle.spare.specs.Status.{statusOf}
+use Rattle.spare.specs.Writing.{firstHalf, secondHalf, magicAndCount, spareOf}
+use Rattle.spare.proofs.Tagging.{tag-table}
+
+-- two halves of 256 bytes, with their codes
+pub record Halves : Type 0 where
+  pub first : Kept
+  pub second : Kept
+  pub firstWhole : length (first .half) ≡ 256
+  pub secondWhole : length (second .half) ≡ 256
+
+pub half-whole : (q : Place) (k : Kept) → length (k .half) ≡ 256 → length (flip q k .half) ≡ 256
+half-whole (dataAt a b) k l = length-set (k .half) a (bitXor (getD (k .half) a 0) (2 ^ b)) ∙ l
+half-whole (codeAt j) k l = l
+
+-- with the bit at a place of half h flipped
+abbrev pub flipIn : Half → Place → Halves → Halves
+flipIn First q ks =
+    record { first = flip q (ks .first); second = ks .second; firstWhole = half-whole q (ks .first) (ks .firstWhole); secondWhole = ks .secondWhole }
+flipIn Second q ks =
+    record { first = ks .first; second = flip q (ks .second); firstWhole = ks .firstWhole; secondWhole = half-whole q (ks .second) (ks .secondWhole) }
+
+-- a protected word as it stands in a spare
+word-read : (n : ℕ) → n < 2 ^ 26
+    → decoded (word (byteOf 3 (encoded n)) (byteOf 2 (encoded n)) (byteOf 1 (encoded n)) (byteOf 0 (encoded n)))
+    ≡ record { bits = n; repair = Unrepaired }
+word-read n h =
+    let fits : encoded n < 2 ^ 32 = unfold encoded checkBits in omega (arith, number-lt 5 (λ j. checkBit j n)) in
+    ap decoded (word-bytes (encoded n) fits) ∙ protects .clean n h
+
+-- the three stored bytes of a code
+abbrev codeBytes : Code → List ℕ
+codeBytes c = c .one ∷ c .two ∷ c .three ∷ []
+
+module _ {bytes : List ℕ} {tag path count : ℕ} (w : Writable bytes tag path count) where
+  -- the page of two halves: the spare as written, but for their codes
+  pub page : Halves → Page
+  page ks =
+      record {
+        bytes = ks .first .half ++ ks .second .half;
+        spare =
+            sets (sets (spareOf bytes tag path count) (codePlace First) (codeBytes (ks .first .code))) (codePlace Second)
+            (codeBytes (ks .second .code));
+      }
+
+  -- the halves as written
+  abbrev pub start : Halves
+  start =
+      record {
+        first = kept (firstHalf bytes);
+        second = kept (secondHalf bytes);
+        firstWhole = simp length-take (omega arith);
+        secondWhole = simp length-drop (omega arith);
+      }
+
+  pub page-written : written bytes tag path count ≡ page start
+  unfolding page spareOf
+  page-written = ap (λ (l : List ℕ). record { bytes = l; spare = spareOf bytes tag path count }) (sym (take-append-drop 256 bytes))
+
+  -- ---- a flip of a page
+  -- of a code bit: one of three stored bytes holds it
+  page-code : (h : Half) (j : ℕ) (ks : Halves) (t u : Bool) → ltb j 8 ≡ t → ltb j 16 ≡ u
+      → flipped h (codeAt j) (page ks) ≡ page (flipIn h (codeAt j) ks)
+  unfolding page spareOf flipCode
+  page-code First j ks true u e f = rw e
+  page-code First j ks false true e f = rw (e, f)
+  page-code First j ks false false e f = rw (e, f)
+  page-code Second j ks true u e f = rw e
+  page-code Second j ks false true e f = rw (e, f)
+  page-code Second j ks false false e f = rw (e, f)
+
+  page-flip : (h : Half) (q : Place) (ks : Halves) → Real q → flipped h q (page ks) ≡ page (flipIn h q ks)
+  unfolding page
+  page-flip First (dataAt a b) ks r = rw (zero-add a, flip-left (ks .first .half) (ks .second .half) a b (omega arith))
+  page-flip Second (dataAt a b) ks r = rw (← (ks .firstWhole), flip-right (ks .first .half) (ks .second .half) a b)
+  page-flip h (codeAt j) ks r = page-code h j ks (ltb j 8) (ltb j 16) refl refl
+
+  pub page-once : (h : Half) (q : Place) → Real q → flipped h q (written bytes tag path count) ≡ page (flipIn h q start)
+  page-once h q s = rw page-written (page-flip h q start s)
+
+  pub page-twice : (g h : Half) (q r : Place) → Real q → Real r
+      → flipped g q (flipped h r (written bytes tag path count)) ≡ page (flipIn g q (flipIn h r start))
+  page-twice g h q r s t = rw (page-once h r t) (page-flip g q (flipIn h r start) s)
+
+  -- ---- the reading of a page
+  abbrev fields : SpareFields
+  fields = fieldsOf tag path count Clean Clean .spare
+
+  page-spare : (ks : Halves) → spareAnswer (page ks .spare) ≡ Read fields
+  unfolding page spareOf spareAnswer statusOf ones onesIn byWords
+  page-spare ks =
+      let magic : magicOf (magicAndCount count) ≡ 0x56 = omega arith in
+      let low : countOf (magicAndCount count) ≡ count = omega arith in
+      rw (tag-table .itself tag (w .known), word-read path (w .short), word-read (magicAndCount count) (omega arith), magic, low, eq-eqb tag tag refl)
+
+  pub page-length : (ks : Halves) → length (page ks .bytes) ≡ 512
+  unfolding page
+  page-length ks = simp length-append (omega arith)
+
+  page-told : (ks : Halves) → pageAnswer (page ks .bytes) (page ks .spare) ≡ byVerdicts fields (told (ks .first)) (told (ks .second))
+  unfolding page pageAnswer spareOf
+  page-told ks =
+      let x = ks .first .half in
+      let y = ks .second .half in
+      rw (eq-eqb (length (x ++ y)) 512 (page-length ks), page-spare ks, take-at x y 256 (ks .firstWhole), drop-at x y 256 (ks .firstWhole))
+
+  -- from what the halves tell, what that answers, and the data that the answer leaves
+  pub page-read : {p : Page} {v u : Verdict} {a : PageAnswer} {after : List ℕ} (ks : Halves)
+      → p ≡ page ks → told (ks .first) ≡ v → told (ks .second) ≡ u → byVerdicts fields v u ≡ a → dataBy a (p .bytes) ≡ after → Reading p a after
+  unfolding dataAfter
+  page-read {p} {a = a} ks e f s b d = record { answered = answer; left = ap (λ (a : PageAnswer). dataBy a (p .bytes)) answer ∙ d }
+    where
+      answer : pageAnswer (p .bytes) (p .spare) ≡ a
+      answer = rw e (page-told ks ∙ rw (f, s) b)

@@ -1,0 +1,388 @@
+// A page of the small chip: the status and the tag of its spare, writing a spare, reading a spare, reading a page with repair in place.
+ghost use mathlib.Core.Bool.{cond};
+ghost use mathlib.Core.Path.{_≡_};
+ghost use Prim.Native.Nat.{_+_, _≤_};
+ghost use lib.Dec.{eqb};
+ghost use lib.ListN.{length};
+ghost use Rattle.spare.specs.Pages.{isRepairable, byVerdicts, storedCode, bySpare, pageAnswer, dataAfter, pageRepairs};
+ghost use Rattle.spare.specs.Judging.{judgedBy};
+ghost use Rattle.spare.specs.Reading.{pathWord, countWord, byWords, byTag, spareAnswer, spareRepairs};
+ghost use Rattle.spare.specs.Status.{statusOf};
+ghost use Rattle.spare.specs.Tags.{tags, nearest, isIn};
+ghost use Rattle.spare.specs.Writing.{isWritable, spareOf, writeAnswer, spareAfter};
+use chip::BadKind;
+use chip::Half;
+use chip::Refusal;
+use chip::SmallChip;
+use ecc::Code;
+use ecc::Verdict;
+use hamming::Decoded;
+
+// What a status byte tells of its block.
+pub enum Status {
+    Good,
+    Bad(BadKind),
+}
+
+// The status by the count of ones of the status byte.
+pub fn status_of(byte: u8) -> Status
+    ensures { λ r. ⌜ r ≡ statusOf byte ⌝ }
+{
+    let ones = u8::count_ones(byte);
+    if 7 <= ones {
+        return Status::Good;
+    }
+    if ones <= 1 {
+        return Status::Bad(BadKind::Factory);
+    }
+    Status::Bad(BadKind::Late)
+}
+
+// The seven tag bytes: free, log-copying, log, data-copying, data, boot-copying, boot.
+const TAGS: [u8; 7] = [0xFF, 0x67, 0x06, 0x79, 0x18, 0x1F, 0x01];
+
+// The tag that a byte stands for.
+pub enum NearestTag {
+    Found(u8),
+    Missing,
+}
+
+// The tag at most one bit from a byte.
+pub fn nearest_tag(byte: u8) -> NearestTag
+    ensures { λ r. ⌜ r ≡ nearest tags byte ⌝ }
+{
+    let mut i: usize = 0;
+    while i < 7 {
+        let t = TAGS[i];
+        if u8::count_ones(t ^ byte) <= 1 {
+            return NearestTag::Found(t);
+        }
+        i += 1;
+    }
+    NearestTag::Missing
+}
+
+// Is this one of the seven tag bytes?
+pub fn is_tag(tag: u64) -> bool
+    ensures { λ r. ⌜ r ≡ isIn tags tag ⌝ }
+{
+    if 255 < tag {
+        return false;
+    }
+    match nearest_tag(tag as u8) {
+        NearestTag::Found(t) => t == tag as u8,
+        NearestTag::Missing => false,
+    }
+}
+
+// Which of tag, path word and count word were repaired.
+pub struct Repairs {
+    pub tag: bool,
+    pub path: bool,
+    pub count: bool,
+}
+
+impl Repairs {
+    // How many were repaired.
+    pub fn number(self) -> u8
+        ensures { λ r. ⌜ r ≡ spareRepairs self ⌝ }
+    {
+        one_if(self.tag) + one_if(self.path) + one_if(self.count)
+    }
+}
+
+// 1 where b is true, else 0.
+fn one_if(b: bool) -> u8
+    ensures { λ r. ⌜ (r ≡ cond b 1 0) × (r ≤ 1) ⌝ }
+{
+    if b { 1 } else { 0 }
+}
+
+// What a spare tells: the status byte as stored; tag, path and count as repaired; and what was repaired.
+pub struct SpareFields {
+    pub status: u8,
+    pub tag: u8,
+    pub path: u32,
+    pub count: u32,
+    pub repaired: Repairs,
+}
+
+// What reading a spare answers.
+pub enum SpareAnswer {
+    Read(SpareFields),
+    Refused(Refusal),
+}
+
+// The answer where tag and words are known.
+fn by_words(spare: &[u8], tag: u8, path: Decoded, count: Decoded) -> SpareAnswer
+    requires { ⌜ length (now spare) ≡ 16 ⌝ }
+    ensures { λ r. ⌜ r ≡ byWords (now (spare .entry)) tag path count ⌝ }
+{
+    if count.bits / 262144 != 0x56 {
+        return SpareAnswer::Refused(Refusal::Magic);
+    }
+    let path_repair = path.repair;
+    let count_repair = count.repair;
+    let repaired = Repairs {
+        tag: spare[4] != tag,
+        path: path_repair.is_repair(),
+        count: count_repair.is_repair(),
+    };
+    SpareAnswer::Read(SpareFields {
+        status: spare[5],
+        tag: tag,
+        path: path.bits,
+        count: count.bits % 262144,
+        repaired: repaired,
+    })
+}
+
+// The path word.
+fn path_word(spare: &[u8]) -> u32
+    requires { ⌜ length (now spare) ≡ 16 ⌝ }
+    ensures { λ r. ⌜ r ≡ pathWord (now (spare .entry)) ⌝ }
+{
+    bits::word_of(spare[0], spare[1], spare[2], spare[3])
+}
+
+// The magic-and-count word.
+fn count_word(spare: &[u8]) -> u32
+    requires { ⌜ length (now spare) ≡ 16 ⌝ }
+    ensures { λ r. ⌜ r ≡ countWord (now (spare .entry)) ⌝ }
+{
+    bits::word_of(spare[6], spare[7], spare[11], spare[12])
+}
+
+// The answer where the tag is known.
+fn by_tag(spare: &[u8], tag: u8) -> SpareAnswer
+    requires { ⌜ length (now spare) ≡ 16 ⌝ }
+    ensures { λ r. ⌜ r ≡ byTag (now (spare .entry)) (NearestTag.Found tag) ⌝ }
+{
+    let path = hamming::decode(path_word(spare));
+    let count = hamming::decode(count_word(spare));
+    by_words(spare, tag, path, count)
+}
+
+// Reads a spare.
+pub fn read_spare(spare: &[u8]) -> SpareAnswer
+    ensures { λ r. ⌜ r ≡ spareAnswer (now (spare .entry)) ⌝ }
+{
+    if spare.len() != SmallChip::SPARE {
+        return SpareAnswer::Refused(Refusal::Length);
+    }
+    match status_of(spare[5]) {
+        Status::Bad(k) => SpareAnswer::Refused(Refusal::BadBlock(k)),
+        Status::Good => match nearest_tag(spare[4]) {
+            NearestTag::Missing => SpareAnswer::Refused(Refusal::Tag),
+            NearestTag::Found(t) => by_tag(spare, t),
+        },
+    }
+}
+
+// What writing a spare answers.
+pub enum WriteAnswer {
+    Written,
+    Refused(Refusal),
+}
+
+// May these be written?
+fn is_writable(tag: u64, path: u64, count: u64) -> bool
+    ensures { λ r. ⌜ r ≡ isWritable tag path count ⌝ }
+{
+    if is_tag(tag) {
+        if path < 67108864 {
+            return count <= 262142;
+        }
+    }
+    false
+}
+
+// Fills the sixteen bytes for 512 data bytes and what may be written with them.
+fn fill_spare(bytes: &[u8], tag: u8, path: u32, count: u32, spare: &mut [u8])
+    requires { ⌜ (length (now bytes) ≡ 512) × (length (now spare) ≡ 16) × (count ≤ 262142) ⌝ }
+    ensures { λ _. ⌜ now (spare .exit) ≡ spareOf (now (bytes .entry)) tag path count ⌝ }
+{
+    let p = bits::bytes_of(hamming::encode(path));
+    let c = bits::bytes_of(hamming::encode(22544384 + count));
+    let first = ecc::code_of(&bytes[..256]);
+    let second = ecc::code_of(&bytes[256..]);
+    let made = [
+        p[0],
+        p[1],
+        p[2],
+        p[3],
+        tag,
+        0xFF,
+        c[0],
+        c[1],
+        second.one,
+        second.two,
+        second.three,
+        c[2],
+        c[3],
+        first.one,
+        first.two,
+        first.three,
+    ];
+    bits::copy(&made, spare);
+}
+
+// Writes the spare of a page.
+pub fn write_spare(bytes: &[u8], tag: u64, path: u64, count: u64, spare: &mut [u8]) -> WriteAnswer
+    ensures answer { λ r. ⌜ r ≡ writeAnswer (now (bytes .entry)) tag path count (now (spare .entry)) ⌝ }
+    ensures written { λ _. ⌜ now (spare .exit) ≡ spareAfter (now (bytes .entry)) tag path count (now (spare .entry)) ⌝ }
+{
+    if bytes.len() != SmallChip::PAGE {
+        return WriteAnswer::Refused(Refusal::Length);
+    }
+    if spare.len() != SmallChip::SPARE {
+        return WriteAnswer::Refused(Refusal::Length);
+    }
+    if is_writable(tag, path, count) {
+        fill_spare(bytes, tag as u8, path as u32, count as u32, spare);
+        return WriteAnswer::Written;
+    }
+    WriteAnswer::Refused(Refusal::Range)
+}
+
+// What a page tells: its spare's fields, and what was put right in each half.
+pub struct PageFields {
+    pub spare: SpareFields,
+    pub first: Verdict,
+    pub second: Verdict,
+}
+
+impl PageFields {
+    // How many of tag, path word, count word, first half and second half were repaired.
+    pub fn repairs(self) -> u8
+        ensures { λ r. ⌜ r ≡ pageRepairs self ⌝ }
+    {
+        let spare = self.spare;
+        let repaired = spare.repaired;
+        let first = self.first;
+        let second = self.second;
+        repaired.number() + first.count() + second.count()
+    }
+}
+
+// What reading a page answers.
+pub enum PageAnswer {
+    Read(PageFields),
+    Refused(Refusal),
+}
+
+// Can a half be put right, or does it need nothing?
+fn is_repairable(v: Verdict) -> bool
+    ensures { λ r. ⌜ r ≡ isRepairable v ⌝ }
+{
+    match v {
+        Verdict::Clean => true,
+        Verdict::CodeBit(_) => true,
+        Verdict::DataBit(_, _) => true,
+        Verdict::NotRepairable => false,
+    }
+}
+
+// What will be answered, and what will be put right in each half.
+struct Judged {
+    answer: PageAnswer,
+    first: Verdict,
+    second: Verdict,
+}
+
+// A refusal, with nothing to put right.
+fn refused(r: Refusal) -> Judged
+    ensures { λ j. ⌜ j ≡ judgedBy (PageAnswer.Refused r) ⌝ }
+{
+    let none = Verdict::Clean;
+    Judged {
+        answer: PageAnswer::Refused(r),
+        first: none,
+        second: none,
+    }
+}
+
+// What is judged where spare and halves are known.
+fn by_verdicts(f: SpareFields, first: Verdict, second: Verdict) -> Judged
+    ensures { λ j. ⌜ j ≡ judgedBy (byVerdicts f first second) ⌝ }
+{
+    if !is_repairable(first) {
+        return refused(Refusal::Unrepairable(Half::First));
+    }
+    if !is_repairable(second) {
+        return Judged {
+            answer: PageAnswer::Refused(Refusal::Unrepairable(Half::Second)),
+            first: Verdict::Clean,
+            second: Verdict::Clean,
+        };
+    }
+    let fields = PageFields {
+        spare: f,
+        first: first,
+        second: second,
+    };
+    Judged {
+        answer: PageAnswer::Read(fields),
+        first: first,
+        second: second,
+    }
+}
+
+// The stored code of a half.
+fn stored_code(spare: &[u8], half: Half) -> Code
+    requires { ⌜ length (now spare) ≡ 16 ⌝ }
+    ensures { λ r. ⌜ r ≡ storedCode half (now (spare .entry)) ⌝ }
+{
+    match half {
+        Half::First => Code {
+            one: spare[13],
+            two: spare[14],
+            three: spare[15],
+        },
+        Half::Second => Code {
+            one: spare[8],
+            two: spare[9],
+            three: spare[10],
+        },
+    }
+}
+
+// Both halves judged by the codes of a spare.
+fn judge_halves(bytes: &[u8], spare: &[u8], f: SpareFields) -> Judged
+    requires { ⌜ (length (now bytes) ≡ 512) × (length (now spare) ≡ 16) ⌝ }
+    ensures { λ j. ⌜ j ≡ judgedBy (bySpare (now (bytes .entry)) (now (spare .entry)) (SpareAnswer.Read f)) ⌝ }
+{
+    let first = ecc::judge_half(&bytes[..256], stored_code(spare, Half::First));
+    let second = ecc::judge_half(&bytes[256..], stored_code(spare, Half::Second));
+    by_verdicts(f, first, second)
+}
+
+// A page judged; nothing is changed.
+fn judge_page(bytes: &[u8], spare: &[u8]) -> Judged
+    ensures { λ j. ⌜ j ≡ judgedBy (pageAnswer (now (bytes .entry)) (now (spare .entry))) ⌝ }
+{
+    if bytes.len() != SmallChip::PAGE {
+        return refused(Refusal::Length);
+    }
+    if spare.len() != SmallChip::SPARE {
+        return refused(Refusal::Length);
+    }
+    match read_spare(spare) {
+        SpareAnswer::Refused(r) => refused(r),
+        SpareAnswer::Read(f) => judge_halves(bytes, spare, f),
+    }
+}
+
+// Reads a page: judged first; then, where the whole read succeeds, both halves are put right in place.
+pub fn read_page(bytes: &mut [u8], spare: &[u8]) -> PageAnswer
+    ensures answer { λ r. ⌜ r ≡ pageAnswer (now (bytes .entry)) (now (spare .entry)) ⌝ }
+    ensures repaired { λ _. ⌜ now (bytes .exit) ≡ dataAfter (now (bytes .entry)) (now (spare .entry)) ⌝ }
+{
+    let judged = judge_page(bytes, spare);
+    let first = judged.first;
+    let second = judged.second;
+    ecc::mend(bytes, Half::First, first);
+    ecc::mend(bytes, Half::Second, second);
+    let answer = judged.answer;
+    answer
+}

@@ -1,0 +1,167 @@
+// Runs the examples of document 01 that are not in the proved table, and the published vectors, through the entries, and compares.
+// data/half-codes: a line is 256 bytes and the three of their code, in hexadecimal. data/spares: a line is 16 spare bytes, the answer's
+// number and detail, and the 11 bytes of fields, EE where they are left as they were. Writes a line for each file and for the erased page.
+ghost use mathlib.Core.Path.{_≡_};
+ghost use Prim.Native.Nat.{_*_, _<_};
+ghost use lib.ListN.{length};
+use libc::STDOUT_FILENO;
+
+fn put(text: &[u8]) {
+    io::write_all(STDOUT_FILENO, text);
+}
+
+// A capital hexadecimal digit's value; of any other character some number below 16.
+fn digit(c: u8) -> u8
+    ensures { λ r. ⌜ r < 16 ⌝ }
+{
+    if c < 65 { c % 16 } else { (c % 16 + 9) % 16 }
+}
+
+// The bytes that `text` spells, two digits each.
+fn spelled(text: &[u8], bytes: &mut [u8])
+    requires { ⌜ length (now text) ≡ 2 * length (now bytes) ⌝ }
+{
+    let mut i: usize = 0;
+    while i < bytes.len() {
+        bytes[i] = digit(text[2 * i]) * 16 + digit(text[2 * i + 1]);
+        i += 1;
+    }
+}
+
+// What a line showed.
+enum Line {
+    Equal,
+    Differs,
+    End,
+}
+
+fn line_of(same: bool) -> Line {
+    if same { Line::Equal } else { Line::Differs }
+}
+
+// A half and its code.
+fn half_line(fd: i32) -> Line {
+    let mut text = [0u8; 520];
+    if io::read_full(fd, &mut text) != 520 {
+        return Line::End;
+    }
+    let mut half = [0u8; 256];
+    let mut want = [0u8; 3];
+    let mut got = [0u8; 3];
+    spelled(&text[0..512], &mut half);
+    spelled(&text[513..519], &mut want);
+    let answer = reamsickle::ream_half_code(&half, &mut got);
+    if answer != 0 {
+        return Line::Differs;
+    }
+    line_of(check::same(&got, &want))
+}
+
+// A spare, and what reading it answers.
+fn spare_line(fd: i32) -> Line {
+    let mut text = [0u8; 61];
+    if io::read_full(fd, &mut text) != 61 {
+        return Line::End;
+    }
+    let mut spare = [0u8; 16];
+    let mut answer = [0u8; 2];
+    let mut want = [0u8; 11];
+    let mut got = [0xEEu8; 11];
+    spelled(&text[0..32], &mut spare);
+    spelled(&text[33..37], &mut answer);
+    spelled(&text[38..60], &mut want);
+    let r = reamsickle::ream_spare_read(&spare, &mut got);
+    if r % 256 != wide(answer[0]) {
+        return Line::Differs;
+    }
+    if r / 256 != wide(answer[1]) {
+        return Line::Differs;
+    }
+    line_of(check::same(&got, &want))
+}
+
+fn wide(x: u8) -> u64 {
+    x as u64
+}
+
+// The kinds of file.
+enum Kind {
+    HalfCodes,
+    Spares,
+}
+
+fn next_line(fd: i32, kind: Kind) -> Line {
+    match kind {
+        Kind::HalfCodes => half_line(fd),
+        Kind::Spares => spare_line(fd),
+    }
+}
+
+// How many lines were compared, and how many of them were equal.
+struct Tally {
+    compared: u32,
+    equal: u32,
+}
+
+// The lines of an open file, at most 100,000.
+fn lines(fd: i32, kind: Kind) -> Tally {
+    let mut compared: u32 = 0;
+    let mut equal: u32 = 0;
+    while compared < 100000 {
+        match next_line(fd, kind) {
+            Line::End => {
+                return Tally {
+                    compared: compared,
+                    equal: equal,
+                };
+            }
+            Line::Equal => {
+                equal += 1;
+            }
+            Line::Differs => {}
+        }
+        compared += 1;
+    }
+    Tally {
+        compared: compared,
+        equal: equal,
+    }
+}
+
+fn number(n: u32) {
+    io::print_decimal(STDOUT_FILENO, n as u64);
+}
+
+// Runs a file, and writes what it showed.
+fn run(name: &[u8], kind: Kind) {
+    let fd = os::open_read(name);
+    if fd < 0 {
+        os::fail(name);
+        return;
+    }
+    let t = lines(fd, kind);
+    libc::close(fd);
+    put(name);
+    put(b": ");
+    number(t.compared);
+    put(b" compared, ");
+    number(t.equal);
+    put(b" equal\n");
+}
+
+// Reading an erased page, all FF, is refusal 5.
+fn erased() {
+    let mut bytes = [0xFFu8; 512];
+    let spare = [0xFFu8; 16];
+    let mut fields = [0u8; 11];
+    let r = reamsickle::ream_page_read(&mut bytes, &spare, &mut fields);
+    put(b"erased page: refusal ");
+    io::print_decimal(STDOUT_FILENO, r);
+    put(b"\n");
+}
+
+fn main() {
+    run(b"half-codes", Kind::HalfCodes);
+    run(b"spares", Kind::Spares);
+    erased();
+}

@@ -1,0 +1,202 @@
+/* Calls of the library's entries, compared with the reference. */
+#include "calls.h"
+
+#include <inttypes.h>
+#include <stdio.h>
+#include <stdlib.h>
+#include <string.h>
+
+#include "draw.h"
+#include "reamsickle.h"
+#include "reference.h"
+
+/* ---- the entries. A buffer stands in a call as its bytes and the length told. */
+
+#define LENT(i) lent_bytes(&buffer[i]), buffer[i].len
+
+static uint64_t library_half_code(const uint64_t *number, struct lent *buffer)
+{
+	(void)number;
+	return ream_half_code(LENT(0), LENT(1));
+}
+
+static uint64_t reference_half_code(const uint64_t *number, struct lent *buffer)
+{
+	(void)number;
+	return ref_half_code(LENT(0), LENT(1));
+}
+
+static uint64_t library_spare_write(const uint64_t *number, struct lent *buffer)
+{
+	return ream_spare_write(LENT(0), number[0], number[1], number[2], LENT(1));
+}
+
+static uint64_t reference_spare_write(const uint64_t *number, struct lent *buffer)
+{
+	return ref_spare_write(LENT(0), number[0], number[1], number[2], LENT(1));
+}
+
+static uint64_t library_spare_read(const uint64_t *number, struct lent *buffer)
+{
+	(void)number;
+	return ream_spare_read(LENT(0), LENT(1));
+}
+
+static uint64_t reference_spare_read(const uint64_t *number, struct lent *buffer)
+{
+	(void)number;
+	return ref_spare_read(LENT(0), LENT(1));
+}
+
+static uint64_t library_page_read(const uint64_t *number, struct lent *buffer)
+{
+	(void)number;
+	return ream_page_read(LENT(0), LENT(1), LENT(2));
+}
+
+static uint64_t reference_page_read(const uint64_t *number, struct lent *buffer)
+{
+	(void)number;
+	return ref_page_read(LENT(0), LENT(1), LENT(2));
+}
+
+#undef LENT
+
+const struct entry entries[ENTRIES] = {
+	[HALF_CODE] = {
+		"ream_half_code", 0, { NULL },
+		2, { { "half", 256, IN }, { "code", 3, OUT } },
+		library_half_code, reference_half_code,
+	},
+	[SPARE_WRITE] = {
+		"ream_spare_write", 3, { "tag", "path", "count" },
+		2, { { "data", 512, IN }, { "spare", 16, OUT } },
+		library_spare_write, reference_spare_write,
+	},
+	[SPARE_READ] = {
+		"ream_spare_read", 0, { NULL },
+		2, { { "spare", 16, IN }, { "fields", 11, OUT } },
+		library_spare_read, reference_spare_read,
+	},
+	[PAGE_READ] = {
+		"ream_page_read", 0, { NULL },
+		3, { { "data", 512, IN_OUT }, { "spare", 16, IN }, { "fields", 11, OUT } },
+		library_page_read, reference_page_read,
+	},
+};
+
+/* ---- messages */
+
+/* A buffer's name, its length and its first bytes, as they were lent. */
+static void show_buffer(const char *name, const uint8_t *bytes, size_t len)
+{
+	const size_t held = lent_held(len);
+
+	printf("    %-10s%zu bytes:", name, len);
+	for (size_t i = 0; i < held && i < SHOWN_BYTES; i++)
+		printf(" %02X", bytes[i]);
+	printf("%s\n", held > SHOWN_BYTES ? " .." : "");
+}
+
+static void show_call(const struct test *test)
+{
+	const struct call *call = &test->call;
+	const struct entry *entry = &entries[call->index];
+
+	printf("%s, call %" PRIu64 ", trying %s\n", entry->name, test->calls[call->index], test->trying);
+	for (unsigned i = 0; i < entry->numbers; i++)
+		printf("    %-10s%" PRIX64 " hex\n", entry->number_name[i], call->number[i]);
+	for (unsigned i = 0; i < entry->buffers; i++)
+		show_buffer(entry->buffer[i].name, call->bytes[i], call->len[i]);
+	printf("    answer    %" PRIX64 " hex, reference %" PRIX64 " hex\n", test->answer,
+	       test->reference_answer);
+}
+
+void expect(struct test *test, bool holds, const char *what)
+{
+	if (holds)
+		return;
+	test->differences++;
+	show_call(test);
+	printf("    differs:  %s\n", what);
+	if (test->differences == MOST_DIFFERENCES)
+		exit(test_end(test));
+}
+
+/* Expects buffer i to be as `other`, and names the first byte that is not. */
+static void expect_bytes(struct test *test, unsigned i, const uint8_t *other, const char *whose)
+{
+	const uint8_t *bytes = call_left(test, i);
+	char what[100];
+	size_t at = 0;
+
+	while (at < test->library[i].held && bytes[at] == other[at])
+		at++;
+	if (at == test->library[i].held)
+		return;
+	snprintf(what, sizeof(what), "%s byte %zu is %02X, %s %02X", entries[test->call.index].buffer[i].name, at,
+		 bytes[at], whose, other[at]);
+	expect(test, false, what);
+}
+
+int test_end(const struct test *test)
+{
+	uint64_t calls = 0;
+
+	for (unsigned i = 0; i < ENTRIES; i++) {
+		printf("%-18s%8" PRIu64 " calls\n", entries[i].name, test->calls[i]);
+		calls += test->calls[i];
+	}
+	printf("host test: %" PRIu64 " calls compared, %" PRIu64 " differ\n", calls, test->differences);
+	return test->differences == 0 ? EXIT_SUCCESS : EXIT_FAILURE;
+}
+
+/* ---- calls */
+
+void call_begin(struct test *test, enum entry_index index)
+{
+	const struct entry *entry = &entries[index];
+	struct call *call = &test->call;
+
+	call->index = index;
+	for (unsigned i = 0; i < entry->buffers; i++) {
+		call->len[i] = entry->buffer[i].len;
+		if (entry->buffer[i].direction == OUT)
+			draw_bytes(&test->state, call->bytes[i], call->len[i]);
+	}
+}
+
+void call_lend(struct test *test, unsigned i, const uint8_t *bytes, size_t len)
+{
+	memcpy(test->call.bytes[i], bytes, len);
+}
+
+const uint8_t *call_left(struct test *test, unsigned i)
+{
+	return lent_bytes(&test->library[i]);
+}
+
+uint64_t call_compare(struct test *test)
+{
+	const struct call *call = &test->call;
+	const struct entry *entry = &entries[call->index];
+	const uint8_t turn = (uint8_t)test->calls[call->index];
+
+	for (unsigned i = 0; i < entry->buffers; i++) {
+		lent_set(&test->library[i], call->bytes[i], call->len[i], turn);
+		lent_set(&test->reference[i], call->bytes[i], call->len[i], turn);
+	}
+	test->answer = entry->library(call->number, test->library);
+	test->reference_answer = entry->reference(call->number, test->reference);
+	test->calls[call->index]++;
+
+	expect(test, test->answer == test->reference_answer, "the answer");
+	for (unsigned i = 0; i < entry->buffers; i++) {
+		expect_bytes(test, i, lent_bytes(&test->reference[i]), "the reference's");
+		if (test->answer != REAM_OK || entry->buffer[i].direction == IN)
+			expect_bytes(test, i, call->bytes[i], "lent as");
+		expect(test, lent_guarded(&test->library[i]), "the library wrote outside a buffer");
+		expect(test, lent_guarded(&test->reference[i]), "the reference wrote outside a buffer");
+	}
+	return test->answer;
+}

@@ -1,0 +1,88 @@
+/*
+ * Calls of the library's entries, each made to the reference as well, on equal inputs, and compared: the
+ * answer, each lent byte, and the guard bytes around each buffer. Two rules are checked of the library
+ * besides: an input is never changed, and a refused call changes nothing.
+ *
+ * A call is made in three steps: call_begin() names the entry, sets every length to the one that document 01
+ * names and fills the outputs with bytes drawn anew; call_lend(), or a store to the call's numbers, lengths
+ * and bytes, sets the rest; call_compare() makes the call both ways.
+ *
+ * An entry is a row of the table `entries`. A new entry of the library is a new row.
+ */
+#ifndef CALLS_H
+#define CALLS_H
+
+#include <stdbool.h>
+#include <stddef.h>
+#include <stdint.h>
+
+#include "lent.h"
+
+enum {
+	MOST_NUMBERS = 3,
+	MOST_BUFFERS = 3,
+	MOST_DIFFERENCES = 5,	/* a test ends after this many */
+	SHOWN_BYTES = 16,	/* a message shows so many bytes of a buffer */
+};
+
+enum entry_index { HALF_CODE, SPARE_WRITE, SPARE_READ, PAGE_READ, ENTRIES };
+
+enum direction { IN, OUT, IN_OUT };
+
+/* An entry with its numbers and its buffers in arrays, each in the order of the parameters. */
+typedef uint64_t entry_call(const uint64_t *number, struct lent *buffer);
+
+struct entry {
+	const char *name;
+	unsigned numbers;
+	const char *number_name[MOST_NUMBERS];
+	unsigned buffers;
+	struct {
+		const char *name;
+		size_t len;
+		enum direction direction;
+	} buffer[MOST_BUFFERS];
+	entry_call *library;
+	entry_call *reference;
+};
+
+extern const struct entry entries[ENTRIES];
+
+/* What a call is made with. */
+struct call {
+	enum entry_index index;
+	uint64_t number[MOST_NUMBERS];
+	size_t len[MOST_BUFFERS];
+	uint8_t bytes[MOST_BUFFERS][LENT_ROOM];
+};
+
+struct test {
+	const char *trying;		/* what is being tried, for messages */
+	uint64_t state;			/* of draw() */
+	uint64_t calls[ENTRIES];	/* calls compared */
+	uint64_t differences;
+	struct call call;		/* the last call, as it was made */
+	uint64_t answer;		/* the library's */
+	uint64_t reference_answer;
+	struct lent library[MOST_BUFFERS];	/* the buffers as the library left them */
+	struct lent reference[MOST_BUFFERS];	/* and as the reference did */
+};
+
+void call_begin(struct test *test, enum entry_index index);
+
+/* Sets the first bytes of buffer i. */
+void call_lend(struct test *test, unsigned i, const uint8_t *bytes, size_t len);
+
+/* Gives the library's answer. */
+uint64_t call_compare(struct test *test);
+
+/* Buffer i as the library left it. */
+const uint8_t *call_left(struct test *test, unsigned i);
+
+/* Counts a difference and shows it with the last call, unless `holds`. */
+void expect(struct test *test, bool holds, const char *what);
+
+/* Prints how many calls were compared and how many differences were found; gives the exit status. */
+int test_end(const struct test *test);
+
+#endif
