@@ -17,7 +17,10 @@ library := target/staticlib/libreamsickle.a
 host := target/host
 programs := $(host)/example $(host)/host_test $(host)/host_test_sanitized $(host)/bench
 headers := $(wildcard include/*.h host/*.h)
-test_sources := host/host_test.c host/calls.c host/lent.c host/reference.c
+reference := host/reference.c host/reference_large.c
+test_sources := host/host_test.c host/test_small.c host/test_large.c host/scenes.c host/lengths.c \
+	host/calls.c host/lent.c host/region.c $(reference)
+bench_sources := host/bench.c host/region.c $(reference)
 
 compile = $(CC) $(WARNINGS) $(CFLAGS) -Iinclude
 
@@ -41,8 +44,8 @@ $(host)/host_test: $(test_sources) $(headers) $(library) | $(host)
 $(host)/host_test_sanitized: $(test_sources) $(headers) $(library) | $(host)
 	$(compile) $(SANITIZE) -o $@ $(test_sources) $(library)
 
-$(host)/bench: host/bench.c host/reference.c $(headers) $(library) | $(host)
-	$(compile) -o $@ host/bench.c host/reference.c $(library)
+$(host)/bench: $(bench_sources) $(headers) $(library) | $(host)
+	$(compile) -o $@ $(bench_sources) $(library)
 
 run: $(host)/example
 	$(host)/example

@@ -60,30 +60,99 @@ static uint64_t reference_page_read(const uint64_t *number, struct lent *buffer)
 	return ref_page_read(LENT(0), LENT(1), LENT(2));
 }
 
+static uint64_t library_first_bitmap(const uint64_t *number, struct lent *buffer)
+{
+	return ream_first_bitmap(number[0], LENT(0), LENT(1));
+}
+
+static uint64_t reference_first_bitmap(const uint64_t *number, struct lent *buffer)
+{
+	return ref_first_bitmap(number[0], LENT(0), LENT(1));
+}
+
+static uint64_t library_table_read(const uint64_t *number, struct lent *buffer)
+{
+	return ream_table_read(number[0], LENT(0), LENT(1), LENT(2));
+}
+
+static uint64_t reference_table_read(const uint64_t *number, struct lent *buffer)
+{
+	return ref_table_read(number[0], LENT(0), LENT(1), LENT(2));
+}
+
+static uint64_t library_update_plan(const uint64_t *number, struct lent *buffer)
+{
+	return ream_update_plan(number[0], LENT(0), LENT(1), LENT(2), LENT(3));
+}
+
+static uint64_t reference_update_plan(const uint64_t *number, struct lent *buffer)
+{
+	return ref_update_plan(number[0], LENT(0), LENT(1), LENT(2), LENT(3));
+}
+
+static uint64_t library_recovery_plan(const uint64_t *number, struct lent *buffer)
+{
+	return ream_recovery_plan(number[0], LENT(0), LENT(1), LENT(2));
+}
+
+static uint64_t reference_recovery_plan(const uint64_t *number, struct lent *buffer)
+{
+	return ref_recovery_plan(number[0], LENT(0), LENT(1), LENT(2));
+}
+
 #undef LENT
+
+/* Buffers that several entries take. */
+#define IMAGE { "image", 2112, PAGE_OF_REGION, IN }
+#define STATUS { "status", 1, PAGE_OF_REGION, IN }
+#define STEPS { "steps", 64, BYTE, OUT }
 
 const struct entry entries[ENTRIES] = {
 	[HALF_CODE] = {
 		"ream_half_code", 0, { NULL },
-		2, { { "half", 256, IN }, { "code", 3, OUT } },
+		2, { { "half", 256, BYTE, IN }, { "code", 3, BYTE, OUT } },
 		library_half_code, reference_half_code,
 	},
 	[SPARE_WRITE] = {
 		"ream_spare_write", 3, { "tag", "path", "count" },
-		2, { { "data", 512, IN }, { "spare", 16, OUT } },
+		2, { { "data", 512, BYTE, IN }, { "spare", 16, BYTE, OUT } },
 		library_spare_write, reference_spare_write,
 	},
 	[SPARE_READ] = {
 		"ream_spare_read", 0, { NULL },
-		2, { { "spare", 16, IN }, { "fields", 11, OUT } },
+		2, { { "spare", 16, BYTE, IN }, { "fields", 11, BYTE, OUT } },
 		library_spare_read, reference_spare_read,
 	},
 	[PAGE_READ] = {
 		"ream_page_read", 0, { NULL },
-		3, { { "data", 512, IN_OUT }, { "spare", 16, IN }, { "fields", 11, OUT } },
+		3, { { "data", 512, BYTE, IN_OUT }, { "spare", 16, BYTE, IN }, { "fields", 11, BYTE, OUT } },
 		library_page_read, reference_page_read,
 	},
+	[FIRST_BITMAP] = {
+		"ream_first_bitmap", 1, { "n" },
+		2, { { "marks", 1, BLOCK_OF_CHIP, IN }, { "bitmap", 1, BYTE_OF_BITMAP, OUT } },
+		library_first_bitmap, reference_first_bitmap,
+	},
+	[TABLE_READ] = {
+		"ream_table_read", 1, { "n" },
+		3, { IMAGE, STATUS, { "bitmap", 1, BYTE_OF_BITMAP, OUT } },
+		library_table_read, reference_table_read,
+	},
+	[UPDATE_PLAN] = {
+		"ream_update_plan", 1, { "n" },
+		4, { IMAGE, STATUS, { "wanted", 1, BYTE_OF_BITMAP, IN }, STEPS },
+		library_update_plan, reference_update_plan,
+	},
+	[RECOVERY_PLAN] = {
+		"ream_recovery_plan", 1, { "n" },
+		3, { IMAGE, STATUS, STEPS },
+		library_recovery_plan, reference_recovery_plan,
+	},
 };
+
+#undef IMAGE
+#undef STATUS
+#undef STEPS
 
 /* ---- messages */
 
@@ -98,6 +167,21 @@ static void show_buffer(const char *name, const uint8_t *bytes, size_t len)
 	printf("%s\n", held > SHOWN_BYTES ? " .." : "");
 }
 
+/* What counts of each page of a region, image and status: how it reads, its mark, signature and version. */
+static void show_region(const struct call *call)
+{
+	const size_t pages = call->len[1];
+
+	if (call->len[0] != 2112 * pages || lent_held(call->len[0]) != call->len[0])
+		return;
+	for (size_t page = 0; page < pages; page++) {
+		const uint8_t *oob = call->bytes[0] + 2112 * page + 2048;
+
+		printf("    page %-5zustatus %02X, OOB 0 %02X, OOB 14-18 %02X %02X %02X %02X %02X\n", page,
+		       call->bytes[1][page], oob[0], oob[14], oob[15], oob[16], oob[17], oob[18]);
+	}
+}
+
 static void show_call(const struct test *test)
 {
 	const struct call *call = &test->call;
@@ -108,6 +192,8 @@ static void show_call(const struct test *test)
 		printf("    %-10s%" PRIX64 " hex\n", entry->number_name[i], call->number[i]);
 	for (unsigned i = 0; i < entry->buffers; i++)
 		show_buffer(entry->buffer[i].name, call->bytes[i], call->len[i]);
+	if (call->index == TABLE_READ || call->index == UPDATE_PLAN || call->index == RECOVERY_PLAN)
+		show_region(call);
 	printf("    answer    %" PRIX64 " hex, reference %" PRIX64 " hex\n", test->answer,
 	       test->reference_answer);
 }
@@ -123,6 +209,11 @@ void expect(struct test *test, bool holds, const char *what)
 		exit(test_end(test));
 }
 
+void expect_answer(struct test *test, uint64_t answer, const char *what)
+{
+	expect(test, test->answer == answer, what);
+}
+
 /* Expects buffer i to be as `other`, and names the first byte that is not. */
 static void expect_bytes(struct test *test, unsigned i, const uint8_t *other, const char *whose)
 {
@@ -130,10 +221,10 @@ static void expect_bytes(struct test *test, unsigned i, const uint8_t *other, co
 	char what[100];
 	size_t at = 0;
 
-	while (at < test->library[i].held && bytes[at] == other[at])
-		at++;
-	if (at == test->library[i].held)
+	if (memcmp(bytes, other, test->library[i].held) == 0)
 		return;
+	while (bytes[at] == other[at])
+		at++;
 	snprintf(what, sizeof(what), "%s byte %zu is %02X, %s %02X", entries[test->call.index].buffer[i].name, at,
 		 bytes[at], whose, other[at]);
 	expect(test, false, what);
@@ -144,7 +235,7 @@ int test_end(const struct test *test)
 	uint64_t calls = 0;
 
 	for (unsigned i = 0; i < ENTRIES; i++) {
-		printf("%-18s%8" PRIu64 " calls\n", entries[i].name, test->calls[i]);
+		printf("%-20s%8" PRIu64 " calls\n", entries[i].name, test->calls[i]);
 		calls += test->calls[i];
 	}
 	printf("host test: %" PRIu64 " calls compared, %" PRIu64 " differ\n", calls, test->differences);
@@ -153,17 +244,39 @@ int test_end(const struct test *test)
 
 /* ---- calls */
 
-void call_begin(struct test *test, enum entry_index index)
+/* How many of a unit there are on a chip of n blocks. */
+static uint64_t units(enum unit unit, uint64_t n)
+{
+	switch (unit) {
+	case BLOCK_OF_CHIP:
+		return n;
+	case BYTE_OF_BITMAP:
+		return n / 4;
+	case PAGE_OF_REGION:
+		return 4 * (n / 4 / 2048 + (n / 4 % 2048 != 0));
+	case BYTE:
+		break;
+	}
+	return 1;
+}
+
+void call_begin_large(struct test *test, enum entry_index index, uint64_t n)
 {
 	const struct entry *entry = &entries[index];
 	struct call *call = &test->call;
 
 	call->index = index;
+	call->number[0] = n;
 	for (unsigned i = 0; i < entry->buffers; i++) {
-		call->len[i] = entry->buffer[i].len;
+		call->len[i] = entry->buffer[i].len * (size_t)units(entry->buffer[i].unit, n);
 		if (entry->buffer[i].direction == OUT)
-			draw_bytes(&test->state, call->bytes[i], call->len[i]);
+			draw_bytes(&test->state, call->bytes[i], lent_held(call->len[i]));
 	}
+}
+
+void call_begin(struct test *test, enum entry_index index)
+{
+	call_begin_large(test, index, 0);
 }
 
 void call_lend(struct test *test, unsigned i, const uint8_t *bytes, size_t len)
@@ -193,7 +306,7 @@ uint64_t call_compare(struct test *test)
 	expect(test, test->answer == test->reference_answer, "the answer");
 	for (unsigned i = 0; i < entry->buffers; i++) {
 		expect_bytes(test, i, lent_bytes(&test->reference[i]), "the reference's");
-		if (test->answer != REAM_OK || entry->buffer[i].direction == IN)
+		if (ream_refusal(test->answer) != REAM_OK || entry->buffer[i].direction == IN)
 			expect_bytes(test, i, call->bytes[i], "lent as");
 		expect(test, lent_guarded(&test->library[i]), "the library wrote outside a buffer");
 		expect(test, lent_guarded(&test->reference[i]), "the reference wrote outside a buffer");

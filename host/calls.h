@@ -3,9 +3,10 @@
  * answer, each lent byte, and the guard bytes around each buffer. Two rules are checked of the library
  * besides: an input is never changed, and a refused call changes nothing.
  *
- * A call is made in three steps: call_begin() names the entry, sets every length to the one that document 01
- * names and fills the outputs with bytes drawn anew; call_lend(), or a store to the call's numbers, lengths
- * and bytes, sets the rest; call_compare() makes the call both ways.
+ * A call is made in three steps: call_begin(), or call_begin_large() for an entry that takes N, names the
+ * entry, sets every length to the one that document 01 names and fills the outputs with bytes drawn anew;
+ * call_lend(), or a store to the call's numbers, lengths and bytes, sets the rest; call_compare() makes the
+ * call both ways.
  *
  * An entry is a row of the table `entries`. A new entry of the library is a new row.
  */
@@ -20,14 +21,23 @@
 
 enum {
 	MOST_NUMBERS = 3,
-	MOST_BUFFERS = 3,
+	MOST_BUFFERS = 4,
 	MOST_DIFFERENCES = 5,	/* a test ends after this many */
 	SHOWN_BYTES = 16,	/* a message shows so many bytes of a buffer */
 };
 
-enum entry_index { HALF_CODE, SPARE_WRITE, SPARE_READ, PAGE_READ, ENTRIES };
+/* The small chip's entries, then the large chip's, which take N as their first number. */
+enum entry_index {
+	HALF_CODE, SPARE_WRITE, SPARE_READ, PAGE_READ,
+	FIRST_BITMAP, TABLE_READ, UPDATE_PLAN, RECOVERY_PLAN,
+	ENTRIES,
+	SMALL_ENTRIES = FIRST_BITMAP,
+};
 
 enum direction { IN, OUT, IN_OUT };
+
+/* What a buffer's length is counted in. */
+enum unit { BYTE, BLOCK_OF_CHIP, BYTE_OF_BITMAP, PAGE_OF_REGION };
 
 /* An entry with its numbers and its buffers in arrays, each in the order of the parameters. */
 typedef uint64_t entry_call(const uint64_t *number, struct lent *buffer);
@@ -39,7 +49,8 @@ struct entry {
 	unsigned buffers;
 	struct {
 		const char *name;
-		size_t len;
+		size_t len;		/* the length named is this many bytes .. */
+		enum unit unit;		/* .. for each of these */
 		enum direction direction;
 	} buffer[MOST_BUFFERS];
 	entry_call *library;
@@ -70,6 +81,9 @@ struct test {
 
 void call_begin(struct test *test, enum entry_index index);
 
+/* The same for an entry that takes N, with the lengths that go with n, which may be any number. */
+void call_begin_large(struct test *test, enum entry_index index, uint64_t n);
+
 /* Sets the first bytes of buffer i. */
 void call_lend(struct test *test, unsigned i, const uint8_t *bytes, size_t len);
 
@@ -81,6 +95,9 @@ const uint8_t *call_left(struct test *test, unsigned i);
 
 /* Counts a difference and shows it with the last call, unless `holds`. */
 void expect(struct test *test, bool holds, const char *what);
+
+/* Expects the library's last answer to be this one. */
+void expect_answer(struct test *test, uint64_t answer, const char *what);
 
 /* Prints how many calls were compared and how many differences were found; gives the exit status. */
 int test_end(const struct test *test);

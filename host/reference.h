@@ -1,6 +1,7 @@
 /*
  * The entries of the library once more, written straight from document 01 for the host programs to
- * compare with. Parameters and answers are those of the entries in include/reamsickle.h.
+ * compare with: the small chip's in reference.c, the large chip's in reference_large.c. Parameters and
+ * answers are those of the entries in include/reamsickle.h.
  */
 #ifndef REFERENCE_H
 #define REFERENCE_H
@@ -17,5 +18,17 @@ uint64_t ref_spare_read(const uint8_t *spare, size_t spare_len, uint8_t *fields,
 
 uint64_t ref_page_read(uint8_t *data, size_t data_len, const uint8_t *spare, size_t spare_len,
 		       uint8_t *fields, size_t fields_len);
+
+uint64_t ref_first_bitmap(uint64_t n, const uint8_t *marks, size_t marks_len, uint8_t *bitmap, size_t bitmap_len);
+
+uint64_t ref_table_read(uint64_t n, const uint8_t *image, size_t image_len, const uint8_t *status,
+			size_t status_len, uint8_t *bitmap, size_t bitmap_len);
+
+uint64_t ref_update_plan(uint64_t n, const uint8_t *image, size_t image_len, const uint8_t *status,
+			 size_t status_len, const uint8_t *wanted, size_t wanted_len, uint8_t *steps,
+			 size_t steps_len);
+
+uint64_t ref_recovery_plan(uint64_t n, const uint8_t *image, size_t image_len, const uint8_t *status,
+			   size_t status_len, uint8_t *steps, size_t steps_len);
 
 #endif

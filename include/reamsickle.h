@@ -1,10 +1,13 @@
 /*
- * Reamsickle: spare areas of the small NAND chip, read and written with repair.
+ * Reamsickle: spare areas of the small NAND chip, read and written with repair, and the bad-block table of
+ * the large NAND chip, read, updated and recovered.
  *
  * The library works on bytes that the caller lends. It drives no chip, allocates nothing and keeps
  * nothing between calls, so calls on different buffers may run side by side.
  *
- * A page of the small chip has 512 data bytes and 16 spare bytes:
+ * The small chip
+ *
+ *   A page has 512 data bytes and 16 spare bytes:
  *
  *	spare byte	holds
  *	0-3		path word, big endian
@@ -13,6 +16,48 @@
  *	6, 7, 11, 12	magic-and-count word, big endian, in that order
  *	8-10		code of the second half (data bytes 256-511)
  *	13-15		code of the first half (data bytes 0-255)
+ *
+ * The large chip
+ *
+ *   A page has 2,048 data bytes and 64 spare bytes, called OOB. The chip has N blocks, N a multiple of 4
+ *   from 8 to 32,768; every entry for it takes N first.
+ *
+ *   The bad-block table has an entry of two bits for each block (enum ream_entry). Its bitmap has N/4
+ *   bytes, with block b in bits 2(b mod 4) and up of byte b/4. It fills the data of P pages, in rising
+ *   order, where P is N/4 divided by 2,048, rounded up: 1 to 4. The rest of the last page is written FF
+ *   and ignored on reading.
+ *
+ *   The table is kept twice, as a primary and as a mirror, each copy in the first P pages of a block of its
+ *   own. Both blocks lie in the region, the last four blocks of the chip (N - 4 to N - 1).
+ *
+ *	OOB byte	holds
+ *	0-13		the controller's bytes; 0 in OOB 0 of a block's first page can mark a bad block
+ *	14-17		signature, primary 42 62 74 30, mirror 31 74 62 42
+ *	18		version, 0 to 255; after 255 comes 0
+ *	19-63		FF
+ *
+ *   The region is lent as two buffers. The image has the first P pages of each of its blocks, lowest block
+ *   first, each page 2,048 + 64 bytes: 4 * P * 2,112 bytes. The status has a byte for each of these pages
+ *   in the same order, REAM_READ_WELL or REAM_UNREADABLE: 4 * P bytes. An unreadable page's bytes may be
+ *   anything. ream_table_pages(), ream_image_size(), ream_status_size() and ream_bitmap_size() give the
+ *   sizes for an N.
+ *
+ *   A block is a good primary (a good mirror) if its P pages all read well, with that signature and with one
+ *   version. It is readable as bad if its first page reads well, has neither signature, and OOB byte 0 is 0.
+ *   The pair is settled if there is exactly one good primary and exactly one good mirror, with equal
+ *   versions and equal bitmaps.
+ *
+ *   No answer depends on any other byte of a region than these: the status, and of pages that read well the
+ *   bitmap's bytes, OOB 14-18, and OOB 0 of a block's first page.
+ *
+ *   A plan is a list of steps for the driver to carry out in their order, each to its end before the next
+ *   begins. A step erases a block, or writes one page of a copy into an erased block: data bytes and OOB as
+ *   above, with FF in OOB 0-13. A plan's version is the one that its pages carry. An update has its new
+ *   primary complete before it touches the mirror, so whenever power fails, a recovery finds the old table
+ *   or the new one whole. A driver reads its table like this:
+ *
+ *	read the region; ream_table_read();
+ *	if that is refused with REAM_NOT_SETTLED: ream_recovery_plan(), carry out its steps, start again
  *
  * How to call
  *
@@ -23,15 +68,18 @@
  *   Every entry returns one uint64_t, the answer:
  *
  *	bits 0-7	the refusal, 0 (REAM_OK) where the call was answered
- *	bits 8-15	the refusal's detail: REAM_BAD_BLOCK has the kind of bad block,
- *			REAM_UNREPAIRABLE has the half, all others have 0
- *	bits 16-63	0
+ *	bits 8-63	of a refused call its detail: REAM_BAD_BLOCK has the kind of bad block,
+ *			REAM_UNREPAIRABLE has the half, all others have 0; of an answered call the numbers
+ *			that the entry names, 0 where it names none
  *
- *   ream_refusal() and ream_detail() take it apart.
+ *   ream_refusal() and ream_detail() take it apart; ream_version(), ream_primary_block(),
+ *   ream_mirror_block() and ream_step_count() give the numbers of an answered call. To see whether a call
+ *   was answered, compare ream_refusal() of the answer with REAM_OK, not the answer itself.
  *
  *   A refused call changes no lent byte, outputs included. Where several things are wrong at once the
- *   order of judging decides: all lengths (1), then the other arguments (2), then what the page holds
- *   (3, 4, 5, 6). Each entry below names the refusals it can give, in its order.
+ *   order of judging decides: N (2), then all lengths (1), then the other arguments (2), then what the
+ *   page holds (3, 4, 5, 6) or what the region holds (8, 7, 9, then 10 or 11). While N is refused no
+ *   length is judged. Each entry below names the refusals it can give, in its order.
  *
  * What the library cannot see, and the caller owes
  *
@@ -59,13 +107,11 @@ enum ream_refusal_number {
 	REAM_TAG = 4,		/* the tag byte is not within one bit of a tag */
 	REAM_MAGIC = 5,		/* the magic, after repair, is not 56 hex */
 	REAM_UNREPAIRABLE = 6,	/* a half is not repairable; detail: enum ream_half */
-
-	/* The large chip's. No entry below gives them. */
 	REAM_NO_COPY = 7,	/* no good primary and no good mirror */
 	REAM_SEVERAL_COPIES = 8,	/* two or more good copies of one kind */
 	REAM_OPPOSITE = 9,	/* both copies good, versions 128 apart */
-	REAM_NOT_SETTLED = 10,	/* the pair of tables is not settled */
-	REAM_NO_TARGET = 11,	/* recovery finds no block to write to */
+	REAM_NOT_SETTLED = 10,	/* reading or update: the pair is not settled, and none of 7 to 9 */
+	REAM_NO_TARGET = 11,	/* recovery: there is no block to write the missing copy to */
 };
 
 /* The detail of REAM_BAD_BLOCK. */
@@ -107,6 +153,41 @@ enum ream_small_size {
 enum ream_small_range {
 	REAM_PATH_MAX = 67108863,	/* 2^26 - 1 */
 	REAM_COUNT_MAX = 262142,
+};
+
+/* An entry of the bad-block table. */
+enum ream_entry {
+	REAM_ENTRY_FACTORY = 0,		/* marked bad by the factory */
+	REAM_ENTRY_LATE = 1,		/* went bad in use */
+	REAM_ENTRY_RESERVED = 2,	/* not to be used */
+	REAM_ENTRY_GOOD = 3,
+};
+
+/* A status byte of a region's page. No other value is taken. */
+enum ream_page_status {
+	REAM_READ_WELL = 0,
+	REAM_UNREADABLE = 1,
+};
+
+/* What a step does. */
+enum ream_step_kind {
+	REAM_ERASE = 0,		/* erases a block */
+	REAM_WRITE = 1,		/* writes one page */
+};
+
+/* The large chip's sizes: in bytes, where no other unit is named. */
+enum ream_large_size {
+	REAM_LARGE_DATA_SIZE = 2048,	/* a page's data */
+	REAM_LARGE_OOB_SIZE = 64,	/* a page's OOB */
+	REAM_LARGE_PAGE_SIZE = 2112,	/* a page in an image, data and OOB */
+	REAM_REGION_BLOCKS = 4,		/* blocks of the region */
+	REAM_STEP_SIZE = 4,		/* a step of a plan */
+	REAM_STEPS_SIZE = 64,		/* the room that planning asks for, 16 steps */
+	REAM_BLOCKS_MIN = 8,		/* the smallest N */
+	REAM_BLOCKS_MAX = 32768,	/* the largest N, and with it: */
+	REAM_IMAGE_SIZE_MAX = 33792,
+	REAM_STATUS_SIZE_MAX = 16,
+	REAM_BITMAP_SIZE_MAX = 8192,
 };
 
 #ifdef __cplusplus
@@ -179,6 +260,94 @@ uint64_t ream_spare_read(const uint8_t *spare, size_t spare_len, uint8_t *fields
 uint64_t ream_page_read(uint8_t *data, size_t data_len, const uint8_t *spare, size_t spare_len,
 			uint8_t *fields, size_t fields_len);
 
+/*
+ * The first bitmap of a chip, from the factory's marks.
+ *
+ *	n	the number of blocks, N
+ *	marks	N bytes: OOB byte 0 of the first page of each block, block 0 first
+ *	bitmap	N/4 bytes, out: REAM_ENTRY_FACTORY where the mark is 0, REAM_ENTRY_GOOD where it is any
+ *		other byte
+ *
+ * Refuses, in this order: REAM_RANGE (n); REAM_LENGTH. marks is never changed.
+ */
+uint64_t ream_first_bitmap(uint64_t n, const uint8_t *marks, size_t marks_len,
+			   uint8_t *bitmap, size_t bitmap_len);
+
+/*
+ * Reads the table of a settled pair.
+ *
+ *	n	the number of blocks, N
+ *	image	4 * P * 2,112 bytes, the region's pages
+ *	status	4 * P bytes, how each of them was read
+ *	bitmap	N/4 bytes, out: the table, without the rest of its last page
+ *
+ * An answered call gives the version (bits 8-15) and the chip blocks that hold the primary (bits 16-31) and
+ * the mirror (bits 32-47), from N - 4 to N - 1: ream_version(), ream_primary_block(), ream_mirror_block().
+ *
+ * Refuses, in this order: REAM_RANGE (n); REAM_LENGTH; REAM_RANGE (a status byte); REAM_SEVERAL_COPIES;
+ * REAM_NO_COPY; REAM_OPPOSITE; REAM_NOT_SETTLED. image and status are never changed.
+ */
+uint64_t ream_table_read(uint64_t n, const uint8_t *image, size_t image_len,
+			 const uint8_t *status, size_t status_len, uint8_t *bitmap, size_t bitmap_len);
+
+/*
+ * Plans the update of a settled pair. Each entry of the new table is the old one where that is not
+ * REAM_ENTRY_GOOD, else the wanted one: a block once not good keeps its entry, whatever is wanted.
+ *
+ *	n	the number of blocks, N
+ *	image	4 * P * 2,112 bytes, the region's pages
+ *	status	4 * P bytes, how each of them was read
+ *	wanted	N/4 bytes, a bitmap
+ *	steps	64 bytes, out, room for 16 steps; ream_step_get() takes the four bytes of a step apart:
+ *		0	kind, enum ream_step_kind
+ *		1-2	chip block, big endian, N - 4 to N - 1
+ *		3	page, 0 to P - 1; 0 for an erase
+ *		Bytes past the plan's last step keep what they held.
+ *
+ * If the new table is the old one, the plan is empty and its version is the pair's. Otherwise it has 2P + 2
+ * steps: erase the primary's block, write its P pages in rising order, erase the mirror's block, write its P
+ * pages in rising order, all with the pair's version plus 1 (0 after 255).
+ *
+ * An answered call gives the plan's version (bits 8-15) and its number of steps (bits 16-23):
+ * ream_version(), ream_step_count().
+ *
+ * Refuses, in this order: REAM_RANGE (n); REAM_LENGTH; REAM_RANGE (a status byte); REAM_SEVERAL_COPIES;
+ * REAM_NO_COPY; REAM_OPPOSITE; REAM_NOT_SETTLED. image, status and wanted are never changed.
+ */
+uint64_t ream_update_plan(uint64_t n, const uint8_t *image, size_t image_len,
+			  const uint8_t *status, size_t status_len, const uint8_t *wanted, size_t wanted_len,
+			  uint8_t *steps, size_t steps_len);
+
+/*
+ * Plans the recovery of a pair, settled or not.
+ *
+ *	n	the number of blocks, N
+ *	image	4 * P * 2,112 bytes, the region's pages
+ *	status	4 * P bytes, how each of them was read
+ *	steps	64 bytes, out: as of ream_update_plan()
+ *
+ * Of two good copies the newer is the one whose version is 1 to 127 ahead of the other's, counted modulo
+ * 256: 0 is newer than 255, and 128 is newer than 127.
+ *
+ *	found				planned, with its number of steps and its version
+ *	a settled pair			nothing: 0 steps, the pair's version
+ *	both good, one newer		erase the older's block and write the newer's table there, as the
+ *					older's kind: P + 1 steps, the newer's version
+ *	both good, versions equal,	an update to the AND of both: 2P + 2 steps, the versions' plus 1
+ *	  bitmaps different
+ *	one kind alone good		erase the highest block that neither holds the good copy nor is
+ *					readable as bad and write the missing kind there: P + 1 steps, the
+ *					good copy's version
+ *
+ * An answered call gives the plan's version (bits 8-15) and its number of steps (bits 16-23):
+ * ream_version(), ream_step_count().
+ *
+ * Refuses, in this order: REAM_RANGE (n); REAM_LENGTH; REAM_RANGE (a status byte); REAM_SEVERAL_COPIES;
+ * REAM_NO_COPY; REAM_OPPOSITE; REAM_NO_TARGET. image and status are never changed.
+ */
+uint64_t ream_recovery_plan(uint64_t n, const uint8_t *image, size_t image_len,
+			    const uint8_t *status, size_t status_len, uint8_t *steps, size_t steps_len);
+
 #ifdef __cplusplus
 }
 #endif
@@ -189,10 +358,34 @@ static inline unsigned ream_refusal(uint64_t answer)
 	return (unsigned)(answer & 0xFF);
 }
 
-/* The detail of an answer's refusal: enum ream_bad_block, enum ream_half, or 0. */
+/* The detail of a refused call: enum ream_bad_block, enum ream_half, or 0. */
 static inline unsigned ream_detail(uint64_t answer)
 {
 	return (unsigned)(answer >> 8 & 0xFF);
+}
+
+/* The version in the answer of ream_table_read() or of planning. */
+static inline unsigned ream_version(uint64_t answer)
+{
+	return (unsigned)(answer >> 8 & 0xFF);
+}
+
+/* The chip block of the primary, in the answer of ream_table_read(). */
+static inline unsigned ream_primary_block(uint64_t answer)
+{
+	return (unsigned)(answer >> 16 & 0xFFFF);
+}
+
+/* The chip block of the mirror, in the answer of ream_table_read(). */
+static inline unsigned ream_mirror_block(uint64_t answer)
+{
+	return (unsigned)(answer >> 32 & 0xFFFF);
+}
+
+/* The number of steps, in the answer of planning. */
+static inline unsigned ream_step_count(uint64_t answer)
+{
+	return (unsigned)(answer >> 16 & 0xFF);
 }
 
 /* One line of text for a refusal. */
@@ -256,6 +449,63 @@ static inline struct ream_fields ream_fields_get(const uint8_t bytes[REAM_FIELDS
 	return fields;
 }
 
+/* The pages that a copy of the table fills, P, on a chip of n blocks; 0 where n is not a number of blocks
+ * that the large chip can have. */
+static inline unsigned ream_table_pages(uint64_t n)
+{
+	if (n < REAM_BLOCKS_MIN || n > REAM_BLOCKS_MAX || n % 4 != 0)
+		return 0;
+	return (unsigned)((n / 4 + REAM_LARGE_DATA_SIZE - 1) / REAM_LARGE_DATA_SIZE);
+}
+
+/* The bytes of the buffers that the entries take for a chip of n blocks; 0 where n is not valid. */
+static inline size_t ream_image_size(uint64_t n)
+{
+	return (size_t)REAM_REGION_BLOCKS * ream_table_pages(n) * REAM_LARGE_PAGE_SIZE;
+}
+
+static inline size_t ream_status_size(uint64_t n)
+{
+	return (size_t)REAM_REGION_BLOCKS * ream_table_pages(n);
+}
+
+static inline size_t ream_bitmap_size(uint64_t n)
+{
+	return ream_table_pages(n) == 0 ? 0 : (size_t)(n / 4);
+}
+
+/* The entry of a block (0 to N - 1) in a bitmap: one of enum ream_entry. */
+static inline unsigned ream_entry_get(const uint8_t *bitmap, uint64_t block)
+{
+	return (unsigned)bitmap[block / 4] >> 2 * (block % 4) & 3;
+}
+
+/* Sets the entry of a block (0 to N - 1) in a bitmap, to one of enum ream_entry. */
+static inline void ream_entry_set(uint8_t *bitmap, uint64_t block, unsigned entry)
+{
+	const unsigned low = 2 * (unsigned)(block % 4);
+
+	bitmap[block / 4] = (uint8_t)((bitmap[block / 4] & ~(3u << low)) | (entry & 3) << low);
+}
+
+/* A step of a plan, as numbers. */
+struct ream_step {
+	uint8_t kind;		/* one of enum ream_step_kind */
+	uint16_t block;		/* chip block, N - 4 to N - 1 */
+	uint8_t page;		/* 0 to P - 1; 0 for an erase */
+};
+
+/* The numbers in the four bytes of a step. Step i of a plan starts at byte REAM_STEP_SIZE * i of its steps. */
+static inline struct ream_step ream_step_get(const uint8_t bytes[REAM_STEP_SIZE])
+{
+	struct ream_step step;
+
+	step.kind = bytes[0];
+	step.block = (uint16_t)(bytes[1] << 8 | bytes[2]);
+	step.page = bytes[3];
+	return step;
+}
+
 /*
  * The entries again, for callers whose pointers may be null: a null pointer is lent as a buffer of no
  * bytes, whatever the length beside it says. So it is refused as a wrong length is, in the same place
@@ -298,6 +548,50 @@ static inline uint64_t ream_page_read_checked(uint8_t *data, size_t data_len,
 	return ream_page_read(data ? data : none, data ? data_len : 0,
 			      spare ? spare : none, spare ? spare_len : 0,
 			      fields ? fields : none, fields ? fields_len : 0);
+}
+
+static inline uint64_t ream_first_bitmap_checked(uint64_t n, const uint8_t *marks, size_t marks_len,
+						 uint8_t *bitmap, size_t bitmap_len)
+{
+	uint8_t none[1] = { 0 };
+
+	return ream_first_bitmap(n, marks ? marks : none, marks ? marks_len : 0,
+				 bitmap ? bitmap : none, bitmap ? bitmap_len : 0);
+}
+
+static inline uint64_t ream_table_read_checked(uint64_t n, const uint8_t *image, size_t image_len,
+					       const uint8_t *status, size_t status_len,
+					       uint8_t *bitmap, size_t bitmap_len)
+{
+	uint8_t none[1] = { 0 };
+
+	return ream_table_read(n, image ? image : none, image ? image_len : 0,
+			       status ? status : none, status ? status_len : 0,
+			       bitmap ? bitmap : none, bitmap ? bitmap_len : 0);
+}
+
+static inline uint64_t ream_update_plan_checked(uint64_t n, const uint8_t *image, size_t image_len,
+						const uint8_t *status, size_t status_len,
+						const uint8_t *wanted, size_t wanted_len,
+						uint8_t *steps, size_t steps_len)
+{
+	uint8_t none[1] = { 0 };
+
+	return ream_update_plan(n, image ? image : none, image ? image_len : 0,
+				status ? status : none, status ? status_len : 0,
+				wanted ? wanted : none, wanted ? wanted_len : 0,
+				steps ? steps : none, steps ? steps_len : 0);
+}
+
+static inline uint64_t ream_recovery_plan_checked(uint64_t n, const uint8_t *image, size_t image_len,
+						  const uint8_t *status, size_t status_len,
+						  uint8_t *steps, size_t steps_len)
+{
+	uint8_t none[1] = { 0 };
+
+	return ream_recovery_plan(n, image ? image : none, image ? image_len : 0,
+				  status ? status : none, status ? status_len : 0,
+				  steps ? steps : none, steps ? steps_len : 0);
 }
 
 #endif

@@ -10,3 +10,7 @@ both-left false b e = absurd (false≢true e)
 pub both-right : (a b : Bool) → (a && b) ≡ true → b ≡ true
 both-right true b e = e
 both-right false b e = absurd (false≢true e)
+
+pub both-intro : (a b : Bool) → a ≡ true → b ≡ true → (a && b) ≡ true
+both-intro true b e f = f
+both-intro false b e f = e

@@ -19,7 +19,7 @@ impl SmallChip {
 
 // The large chip: 2,048 data bytes and 64 OOB bytes a page; its number of blocks, and how many of the last hold the tables.
 pub struct LargeChip {
-    pub blocks: u32,
+    pub blocks: u16,
     pub region: u8,
 }
 
@@ -52,7 +52,7 @@ impl LargeChip {
             return ChipAnswer::Refused(Refusal::Range);
         }
         ChipAnswer::Chip(LargeChip {
-            blocks: n as u32,
+            blocks: n as u16,
             region: LargeChip::REGION,
         })
     }

@@ -5,6 +5,8 @@ use mathlib.Core.Path.{_≡_, refl, _∙_}
 use Prim.Native.Nat.{ℕ}
 use lib.Count.{ones, onesIn}
 use lib.ListN.{take}
+use Rattle.bbt.specs.Pairs.{signedOf, difference, bothCase, compared}
+use Rattle.bbt.specs.Plans.{recoverCase}
 use Rattle.bits.specs.Bits.{bit, number, parityOf}
 use Rattle.bits.specs.Bytes.{wordBytes}
 use Rattle.chip.specs.Boot.{pathOf}
@@ -23,6 +25,6 @@ unfolding spareOf
 count-bytes c bytes e page t p = e
 
 pub starred : All table
-unfolding bit number parityOf ones onesIn pathOf placeBit counts parity codeBit codeFrom notPowers houseNumbers checkBit checkBits encoded nearest
+unfolding recoverCase signedOf difference bothCase compared bit number parityOf ones onesIn pathOf placeBit counts parity codeBit codeFrom notPowers houseNumbers checkBit checkBits encoded nearest
 starred =
-    (refl, (refl, (refl, (refl, (path-bytes 0 _ refl, (path-bytes 1 _ refl, (refl, (path-bytes 6 _ refl, (count-bytes 1 _ refl, (refl, (refl, (refl, tt))))))))))))
+    (refl, (refl, (refl, (refl, (path-bytes 0 _ refl, (path-bytes 1 _ refl, (refl, (path-bytes 6 _ refl, (count-bytes 1 _ refl, (refl, (refl, (refl, (refl, (refl, (refl, ((λ chip R x y p m. refl), tt))))))))))))))))

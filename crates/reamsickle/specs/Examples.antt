@@ -2,9 +2,17 @@
 use mathlib.Core.List.{List, [], _∷_}
 use mathlib.Core.Path.{_≡_}
 use Prim.Native.Nat.{ℕ}
+use lib.IntN.{ℤ, pos}
 use lib.ListN.{getD, replicate, set, take}
+use Rattle.bbt.specs.Copies.{Table}
+use Rattle.bbt.specs.Entries.{entryOf}
+use Rattle.bbt.specs.Pages.{View}
+use Rattle.bbt.specs.Pairs.{difference, compared}
+use Rattle.bbt.specs.Plans.{refuse, recoverCase}
 use Rattle.chip.specs.Boot.{pathOf}
+use Rattle.chip.specs.declared.LargeChip.{LargeChip}
 use Rattle.chip.specs.declared.PathAnswer.the-variants.{Path}
+use Rattle.chip.specs.declared.Refusal.the-variants.{Opposite}
 use Rattle.ecc.specs.Half.{codeOf}
 use Rattle.spare.specs.Tags.{tags, nearest}
 use Rattle.spare.specs.Writing.{spareOf}
@@ -24,17 +32,32 @@ pub data Example : Type 0 where
   count : ℕ → List ℕ → Example
   -- a stored tag byte, and the tag it stands for
   tag : ℕ → NearestTag → Example
+  -- a byte of a bitmap, and the entries of its four blocks
+  entries : ℕ → List ℕ → Example
+  -- the versions of primary and mirror, and their d
+  versions : ℕ → ℕ → ℤ → Example
+  -- the versions of primary and mirror for which recovery answers refusal 9
+  opposite : ℕ → ℕ → Example
 
 abbrev pub countBytes : List ℕ → List ℕ
 countBytes s = getD s 6 0 ∷ getD s 7 0 ∷ getD s 11 0 ∷ getD s 12 0 ∷ []
 
--- an example holds; of a path or a count whatever else is written with it
+abbrev pub fourEntries : List ℕ → List ℕ
+fourEntries bitmap = entryOf bitmap 0 ∷ entryOf bitmap 1 ∷ entryOf bitmap 2 ∷ entryOf bitmap 3 ∷ []
+
+abbrev pub versioned : ℕ → List ℕ → Table
+versioned v bitmap = record { version = v; bitmap = bitmap }
+
+-- an example holds; of a path or a count whatever else is written with it, of two versions whatever the bitmaps and the blocks
 abbrev pub Holds : Example → Type 0
 Holds (half bytes code) = codeBytes (codeOf bytes) ≡ code
 Holds (boot number generation p) = pathOf number generation ≡ Path p
 Holds (path p bytes) = (page : List ℕ) (t c : ℕ) → take 4 (spareOf page t p c) ≡ bytes
 Holds (count c bytes) = (page : List ℕ) (t p : ℕ) → countBytes (spareOf page t p c) ≡ bytes
 Holds (tag b t) = nearest tags b ≡ t
+Holds (entries byte es) = fourEntries (byte ∷ []) ≡ es
+Holds (versions p m d) = difference p m ≡ d
+Holds (opposite v w) = (chip : LargeChip) (R : View) (x y : List ℕ) (p m : ℕ) → recoverCase chip R (compared (versioned v x) (versioned w y) p m) ≡ refuse Opposite
 
 abbrev pub All : List Example → Type 0
 All [] = Unit {0}
@@ -54,4 +77,8 @@ table =
     ∷ tag 0x07 (Found 0x06)
     ∷ tag 0x00 (Found 0x01)
     ∷ tag 0x55 Missing
+    ∷ entries 0x27 (3 ∷ 1 ∷ 2 ∷ 0 ∷ [])
+    ∷ versions 0 255 (pos 1)
+    ∷ versions 128 127 (pos 1)
+    ∷ opposite 5 133
     ∷ []

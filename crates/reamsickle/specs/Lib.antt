@@ -1,2 +1,4 @@
 pub mod Boundary
+pub mod LargeBoundary
+pub mod Claims
 pub mod Examples

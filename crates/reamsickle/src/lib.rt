@@ -1,11 +1,25 @@
 // The C entries: thin functions on numbers and byte slices over the crates below. Each has its answer as one number (include/reamsickle.h).
 ghost use mathlib.Core.Path.{_≡_};
-ghost use Prim.Native.Nat.{_<_};
+ghost use Prim.Native.Nat.{_*_, _<_, _≤_};
+ghost use lib.ListN.{length};
+ghost use Rattle.bbt.specs.Plans.{for-update, for-recovery};
+ghost use Rattle.bbt.specs.Told.{toldSteps};
+ghost use Rattle.bitmap.specs.Made.{firstAfter};
 ghost use Rattle.bits.specs.Bytes.{copied};
 ghost use Rattle.reamsickle.specs.Boundary.{refusalCode, fieldBytes, halfCode, halfCodeAfter, writeCode, spareCode, spareFieldsAfter, pageCode, pageDataAfter, pageFieldsAfter};
+ghost use Rattle.plan.specs.Answers.{planAnswer};
+ghost use Rattle.reamsickle.specs.LargeBoundary.{firstCode, tableCode, stepBytes, stepsPut, planCode, stepsAfter, roomOf};
+ghost use Rattle.region.specs.Tables.{tableAfter};
 ghost use Rattle.spare.specs.Writing.{spareAfter};
+use bbt::Plan;
+use bbt::Step;
+use bitmap::BitmapAnswer;
+use chip::ChipAnswer;
+use chip::LargeChip;
 use chip::Refusal;
 use chip::SmallChip;
+use plan::PlanAnswer;
+use region::TableAnswer;
 use spare::PageAnswer;
 use spare::SpareAnswer;
 use spare::SpareFields;
@@ -113,4 +127,107 @@ pub extern "C" fn ream_page_read(bytes: &mut [u8], spare: &[u8], fields: &mut [u
             0
         }
     }
+}
+
+// The first bitmap of a chip of n blocks: n marks in, n/4 bytes out.
+#[no_mangle]
+pub extern "C" fn ream_first_bitmap(n: u64, marks: &[u8], bitmap: &mut [u8]) -> u64
+    ensures answer { λ r. ⌜ r ≡ firstCode n (now (marks .entry)) (now (bitmap .entry)) ⌝ }
+    ensures out { λ _. ⌜ now (bitmap .exit) ≡ firstAfter n (now (marks .entry)) (now (bitmap .entry)) ⌝ }
+{
+    match bitmap::first_bitmap(n, marks, bitmap) {
+        BitmapAnswer::Made => 0,
+        BitmapAnswer::Refused(r) => refusal_code(r),
+    }
+}
+
+// Reads a settled pair: the region image and its status bytes in, the bitmap out.
+#[no_mangle]
+pub extern "C" fn ream_table_read(n: u64, image: &[u8], status: &[u8], bitmap: &mut [u8]) -> u64
+    ensures answer { λ r. ⌜ r ≡ tableCode n (now (image .entry)) (now (status .entry)) (now (bitmap .entry)) ⌝ }
+    ensures out { λ _. ⌜ now (bitmap .exit) ≡ tableAfter n (now (image .entry)) (now (status .entry)) (now (bitmap .entry)) ⌝ }
+{
+    match region::read_table(n, image, status, bitmap) {
+        TableAnswer::Refused(r) => refusal_code(r),
+        TableAnswer::Read(version, primary, mirror) => {
+            256 * (version as u64)
+                + 65536 * ((primary.0 % 65536) as u64)
+                + 4294967296 * ((mirror.0 % 65536) as u64)
+        }
+    }
+}
+
+// A step in four bytes: kind, chip block big endian, page.
+fn step_bytes(step: Step) -> [u8; 4]
+    ensures { λ r. ⌜ r ≡ stepBytes step ⌝ }
+{
+    match step {
+        Step::Erase(b) => [0, (b.0 / 256 % 256) as u8, (b.0 % 256) as u8, 0],
+        Step::Write(b, page, _) => [1, (b.0 / 256 % 256) as u8, (b.0 % 256) as u8, page],
+        Step::Past => [0, 0, 0, 0],
+    }
+}
+
+// Puts the steps of a plan into the first bytes of `steps`.
+fn put_steps(plan: Plan, steps: &mut [u8])
+    requires { ⌜ 4 * length (toldSteps plan) ≤ length (now steps) ⌝ }
+    ensures { λ _. ⌜ now (steps .exit) ≡ stepsPut (toldSteps plan) (now (steps .entry)) ⌝ }
+{
+    let count = plan.count() as usize;
+    let mut k: usize = 0;
+    while k < count {
+        let four = step_bytes(plan.step(k as u64));
+        let at = 4 * k;
+        let end = at + 4;
+        bits::copy(&four, &mut steps[at..end]);
+        k += 1;
+    }
+}
+
+// Tells what was planned: N, then room for sixteen steps, then the answer.
+fn tell_plan(n: u64, answer: PlanAnswer, steps: &mut [u8]) -> u64
+    requires { ⌜ roomOf answer ≤ 64 ⌝ }
+    ensures answer { λ r. ⌜ r ≡ planCode n answer (now (steps .entry)) ⌝ }
+    ensures out { λ _. ⌜ now (steps .exit) ≡ stepsAfter n answer (now (steps .entry)) ⌝ }
+{
+    match LargeChip::new(n) {
+        ChipAnswer::Refused(r) => refusal_code(r),
+        ChipAnswer::Chip(_) => {
+            if steps.len() != 64 {
+                return refusal_code(Refusal::Length);
+            }
+            match answer {
+                PlanAnswer::Refused(r) => refusal_code(r),
+                PlanAnswer::Planned(plan) => {
+                    let version = plan.version;
+                    put_steps(plan, steps);
+                    256 * (version as u64) + 65536 * (plan.count() as u64)
+                }
+            }
+        }
+    }
+}
+
+// Plans an update: the region image, its status bytes and the wanted bitmap in, up to sixteen steps out.
+#[no_mangle]
+pub extern "C" fn ream_update_plan(
+    n: u64,
+    image: &[u8],
+    status: &[u8],
+    wanted: &[u8],
+    steps: &mut [u8],
+) -> u64
+    ensures answer { λ r. ⌜ r ≡ planCode n (planAnswer n (for-update (now (wanted .entry))) (now (image .entry)) (now (status .entry))) (now (steps .entry)) ⌝ }
+    ensures out { λ _. ⌜ now (steps .exit) ≡ stepsAfter n (planAnswer n (for-update (now (wanted .entry))) (now (image .entry)) (now (status .entry))) (now (steps .entry)) ⌝ }
+{
+    tell_plan(n, plan::update_plan(n, image, status, wanted), steps)
+}
+
+// Plans a recovery: the region image and its status bytes in, up to sixteen steps out.
+#[no_mangle]
+pub extern "C" fn ream_recovery_plan(n: u64, image: &[u8], status: &[u8], steps: &mut [u8]) -> u64
+    ensures answer { λ r. ⌜ r ≡ planCode n (planAnswer n for-recovery (now (image .entry)) (now (status .entry))) (now (steps .entry)) ⌝ }
+    ensures out { λ _. ⌜ now (steps .exit) ≡ stepsAfter n (planAnswer n for-recovery (now (image .entry)) (now (status .entry))) (now (steps .entry)) ⌝ }
+{
+    tell_plan(n, plan::recovery_plan(n, image, status), steps)
 }

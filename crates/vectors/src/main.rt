@@ -1,9 +1,11 @@
 // Runs the examples of document 01 that are not in the proved table, and the published vectors, through the entries, and compares.
 // data/half-codes: a line is 256 bytes and the three of their code, in hexadecimal. data/spares: a line is 16 spare bytes, the answer's
-// number and detail, and the 11 bytes of fields, EE where they are left as they were. Writes a line for each file and for the erased page.
+// number and detail, and the 11 bytes of fields, EE where they are left as they were. Writes a line for each file, for the erased page and for each number of blocks.
 ghost use mathlib.Core.Path.{_≡_};
 ghost use Prim.Native.Nat.{_*_, _<_};
 ghost use lib.ListN.{length};
+use chip::ChipAnswer;
+use chip::LargeChip;
 use libc::STDOUT_FILENO;
 
 fn put(text: &[u8]) {
@@ -160,8 +162,29 @@ fn erased() {
     put(b"\n");
 }
 
+// Of a number of blocks: P, or its refusal.
+fn blocks(n: u64) {
+    io::print_decimal(STDOUT_FILENO, n);
+    match LargeChip::new(n) {
+        ChipAnswer::Chip(chip) => {
+            put(b" blocks: P ");
+            io::print_decimal(STDOUT_FILENO, chip.pages() as u64);
+        }
+        ChipAnswer::Refused(r) => {
+            put(b" blocks: refusal ");
+            io::print_decimal(STDOUT_FILENO, r.number() as u64);
+        }
+    }
+    put(b"\n");
+}
+
 fn main() {
     run(b"half-codes", Kind::HalfCodes);
     run(b"spares", Kind::Spares);
     erased();
+    blocks(8192);
+    blocks(8196);
+    blocks(4);
+    blocks(10);
+    blocks(32772);
 }

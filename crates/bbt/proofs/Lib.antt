@@ -1,0 +1,6 @@
+pub mod ToldSteps
+pub mod Searches
+pub mod Raw
+pub mod Views
+pub mod Dependence
+pub mod Bitmaps

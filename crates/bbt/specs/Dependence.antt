@@ -1,0 +1,38 @@
+-- Document 01: answers depend on N, the call's other arguments, the status bytes, and of well-read pages only the bitmap bytes, OOB 14-18, and
+-- OOB 0 of a block's first page. Any other byte may change and no answer does.
+use mathlib.Core.List.{List}
+use mathlib.Core.Path.{_≡_}
+use Prim.Native.Nat.{ℕ, _+_, _*_, _<_, _≤_}
+use lib.ListN.{length, getD}
+use Rattle.chip.specs.Large.{chipOf, pagesOf}
+use Rattle.chip.specs.declared.ChipAnswer.the-variants.{Chip}
+use Rattle.chip.specs.declared.LargeChip.{LargeChip}
+use Rattle.bbt.specs.Lent.{tableReading, planned, imaged}
+use Rattle.bbt.specs.Pages.{pageStatus, pageBytes, partLength}
+use Rattle.bbt.specs.Plans.{Call}
+
+-- byte j of page p of region block b
+abbrev pub byteIn : LargeChip → List ℕ → ℕ → ℕ → ℕ → ℕ
+byteIn chip image b p j = getD (pageBytes image (b * pagesOf chip + p)) j 0
+
+-- a page of the region that reads well
+pub record WellRead (chip : LargeChip) (status : List ℕ) (b p : ℕ) : Type 0 where
+  pub block : b < chip .region
+  pub page : p < pagesOf chip
+  pub well : pageStatus status (b * pagesOf chip + p) ≡ 0
+
+-- two images of one length that agree, under the same status bytes, on the bytes that count
+pub record Alike (chip : LargeChip) (status x y : List ℕ) : Type 0 where
+  pub lengths : length x ≡ length y
+  pub bitmap : (b p j : ℕ) → WellRead chip status b p → j < partLength chip p → byteIn chip x b p j ≡ byteIn chip y b p j
+  pub oob : (b p j : ℕ) → WellRead chip status b p → 14 ≤ j → j ≤ 18 → byteIn chip x b p (2048 + j) ≡ byteIn chip y b p (2048 + j)
+  pub mark : (b : ℕ) → WellRead chip status b 0 → byteIn chip x b 0 2048 ≡ byteIn chip y b 0 2048
+
+-- the answers of reading, planning and page images are the same
+pub record Depends (n : ℕ) (status x y : List ℕ) : Type 0 where
+  pub reads : (room : List ℕ) → tableReading n x status room ≡ tableReading n y status room
+  pub plans : (call : Call) → planned n call x status ≡ planned n call y status
+  pub images : (call : Call) (i : ℕ) → imaged n call x status i ≡ imaged n call y status i
+
+abbrev pub Dependence : Type 0
+Dependence = (n : ℕ) (chip : LargeChip) (status x y : List ℕ) → chipOf n ≡ Chip chip → Alike chip status x y → Depends n status x y

@@ -1,0 +1,58 @@
+-- Document 01: what is lent to reading and planning, judged in its order: N, then lengths, then status bytes, then the rest.
+use mathlib.Core.Bool.{Bool, true, cond, _&&_}
+use mathlib.Core.List.{List}
+use Prim.Native.Nat.{ℕ}
+use lib.Dec.{eqb, ltb}
+use lib.ListN.{length, getD}
+use Rattle.chip.specs.Large.{chipOf, bitmapBytes, regionPages, regionBytes}
+use Rattle.chip.specs.declared.ChipAnswer.{ChipAnswer}
+use Rattle.chip.specs.declared.ChipAnswer.the-variants.{Chip, Refused}
+use Rattle.chip.specs.declared.LargeChip.{LargeChip}
+use Rattle.chip.specs.declared.Refusal.{Refusal}
+use Rattle.chip.specs.declared.Refusal.the-variants.{Length, Range}
+use Rattle.bbt.specs.Copies.{all}
+use Rattle.bbt.specs.Images.{Imaged, no-image, planImage}
+use Rattle.bbt.specs.Pages.{seen}
+use Rattle.bbt.specs.Plans.{Reading, refused, reading, Answer, refuse, Call, for-update, for-recovery, firstPlan}
+
+-- on the chip of N blocks, or N's refusal
+abbrev pub onChip : {A : Type 0} → (Refusal → A) → ChipAnswer → (LargeChip → A) → A
+onChip out (Refused r) f = out r
+onChip out (Chip chip) f = f chip
+
+-- the image and its status bytes have their lengths
+unfoldable pub regionLent : LargeChip → List ℕ → List ℕ → Bool
+regionLent chip image status = eqb (length image) (regionBytes chip) && eqb (length status) (regionPages chip)
+
+-- each status byte is 0, read well, or 1, unreadable
+unfoldable pub statusesRight : List ℕ → Bool
+statusesRight status = all (length status) (λ i. ltb (getD status i 0) 2)
+
+-- lengths (1), then status bytes (2), then the answer
+abbrev pub judged : {A : Type 0} → (Refusal → A) → Bool → Bool → A → A
+judged out lengths statuses a = cond lengths (cond statuses a (out Range)) (out Length)
+
+-- reading, with room for the bitmap
+unfoldable pub lentReading : LargeChip → List ℕ → List ℕ → List ℕ → Reading
+lentReading chip image status room =
+    judged refused (regionLent chip image status && eqb (length room) (bitmapBytes chip)) (statusesRight status)
+    (reading chip (seen chip image status))
+
+unfoldable pub tableReading : ℕ → List ℕ → List ℕ → List ℕ → Reading
+tableReading n image status room = onChip refused (chipOf n) (λ chip. lentReading chip image status room)
+
+-- planning, with a wanted bitmap for an update
+abbrev pub callLent : LargeChip → Call → Bool
+callLent chip (for-update w) = eqb (length w) (bitmapBytes chip)
+callLent chip for-recovery = true
+
+unfoldable pub lentPlan : LargeChip → Call → List ℕ → List ℕ → Answer
+lentPlan chip call image status =
+    judged refuse (regionLent chip image status && callLent chip call) (statusesRight status) (firstPlan chip (seen chip image status) call)
+
+unfoldable pub planned : ℕ → Call → List ℕ → List ℕ → Answer
+planned n call image status = onChip refuse (chipOf n) (λ chip. lentPlan chip call image status)
+
+-- the page image of step i of the plan that planning gives
+unfoldable pub imaged : ℕ → Call → List ℕ → List ℕ → ℕ → Imaged
+imaged n call image status i = onChip no-image (chipOf n) (λ chip. planImage chip (lentPlan chip call image status) i)

@@ -1,0 +1,10 @@
+pub mod Entries
+pub mod Pages
+pub mod Copies
+pub mod Stored
+pub mod Pairs
+pub mod Plans
+pub mod Images
+pub mod Lent
+pub mod Told
+pub mod Dependence

@@ -1,0 +1,39 @@
+-- `first_bitmap` meets its contract: the chip of N blocks or its refusal, and then what `made` answers.
+-- Assumes nothing.
+use Rattle.bitmap.proofs.First.{refused-first, made-first}
+use borrow.Author.Needs.{needs}
+use Rattle.bitmap.proofs.first_bitmap.Statement.{statement}
+use Rattle.bitmap.proofs.first_bitmap.Tie as tie
+
+new-requires : tie.Need-new-requires
+new-requires c κs = search needs
+
+enum-known-r : tie.Need-enum-known-r
+enum-known-r c = search needs
+
+enum-known-chip : tie.Need-enum-known-chip
+enum-known-chip c = search needs
+
+made-requires : tie.Need-made-requires
+made-requires c κs = search needs
+
+returns : tie.Need-returns
+returns c = refused-first (c .before .before .before .before .before .before .args .n) (c .before .before .before .before .before .before .args .marks .now) (c .before .before .before .before .before .before .args .bitmap .now) (c .before .r .given .0 .0) (cc)
+
+same-length : tie.Need-same-length
+same-length c = search needs
+
+returns-2 : tie.Need-returns-2
+returns-2 c = made-first (c .before .before .before .before .before .before .before .before .before .before .args .n) (c .before .before .before .before .before .before .before .before .before .before .args .marks .now) (c .before .before .before .before .before .before .before .before .before .before .args .bitmap .now) (c .before .before .before .before .before .chip .given .0 .0) (c .before .before .made .result) _ (cc) (c .before .before .made .ensures .0) (c .before .before .made .ensures .1)
+
+pub first-bitmap-spec : {M : Type 1} → statement M
+first-bitmap-spec =
+    tie.close
+    (tie.spec
+    new-requires
+    enum-known-r
+    enum-known-chip
+    made-requires
+    returns
+    same-length
+    returns-2)

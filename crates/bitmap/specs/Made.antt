@@ -1,0 +1,44 @@
+-- What the functions over bitmaps answer and leave, at every input.
+use mathlib.Core.Bool.{Bool, cond, _&&_}
+use mathlib.Core.List.{List}
+use Prim.Native.Nat.{ℕ}
+use lib.Dec.{eqb}
+use lib.ListN.{length}
+use Rattle.bbt.specs.Entries.{firstBitmap, updatedBytes, andBytes}
+use Rattle.bbt.specs.Lent.{onChip}
+use Rattle.bbt.specs.Pairs.{same}
+use Rattle.chip.specs.Large.{chipOf, bitmapBytes}
+use Rattle.chip.specs.declared.LargeChip.{LargeChip}
+use Rattle.chip.specs.declared.Refusal.the-variants.{Length}
+use Rattle.bitmap.specs.declared.BitmapAnswer.{BitmapAnswer}
+use Rattle.bitmap.specs.declared.BitmapAnswer.the-variants.{Made, Refused}
+
+-- N marks, and room for N/4 bytes
+unfoldable pub marksLent : LargeChip → List ℕ → List ℕ → Bool
+marksLent chip marks room = eqb (length marks) (chip .blocks) && eqb (length room) (bitmapBytes chip)
+
+-- N, then the lengths
+unfoldable pub firstAnswer : ℕ → List ℕ → List ℕ → BitmapAnswer
+firstAnswer n marks room = onChip Refused (chipOf n) (λ chip. cond (marksLent chip marks room) Made (Refused Length))
+
+-- the lent bytes after it: changed where the bitmap was made only
+abbrev pub firstBy : BitmapAnswer → List ℕ → List ℕ → List ℕ
+firstBy Made new old = new
+firstBy (Refused r) new old = old
+
+unfoldable pub firstAfter : ℕ → List ℕ → List ℕ → List ℕ
+firstAfter n marks room = firstBy (firstAnswer n marks room) (firstBitmap n marks) room
+
+-- the update rule changes no entry
+unfoldable pub keeps : List ℕ → List ℕ → Bool
+keeps old wanted = same (updatedBytes old wanted) old
+
+-- three lists of one length
+abbrev pub oneLength : List ℕ → List ℕ → List ℕ → Bool
+oneLength a b c = eqb (length a) (length c) && eqb (length b) (length c)
+
+unfoldable pub updatedInto : List ℕ → List ℕ → List ℕ → List ℕ
+updatedInto old wanted out = cond (oneLength old wanted out) (updatedBytes old wanted) out
+
+unfoldable pub andedInto : List ℕ → List ℕ → List ℕ → List ℕ
+andedInto a b out = cond (oneLength a b out) (andBytes a b) out

@@ -1,0 +1,112 @@
+-- The chip blocks that are told are below N: each is one of the region's, the last blocks of the chip.
+-- Assumes nothing.
+use mathlib.Core.Bool.{Bool, true, false, cond, _&&_}
+use mathlib.Core.List.{List, [], _∷_}
+use mathlib.Core.Option.{Option, none, some}
+use mathlib.Core.Path.{_≡_, refl}
+use Prim.Native.Nat.{ℕ, zero, suc, _<_, _≤_}
+use native.Mathlib.Omega.{arith}
+use lib.Dec.{eqb}
+use lib.IntN.{pos, negsuc}
+use lib.ListN.{length}
+use Rattle.bbt.proofs.Raw.{Valid, chip-valid}
+use Rattle.bbt.proofs.Views.{Copies, case-copies}
+use Rattle.bbt.specs.Copies.{Table, table, highest}
+use Rattle.bbt.specs.Entries.{updatedBytes}
+use Rattle.bbt.specs.Lent.{onChip, regionLent, statusesRight, callLent, judged, lentReading, tableReading, lentPlan}
+use Rattle.bbt.specs.Pages.{View, seen}
+use Rattle.bbt.specs.Pairs.{same, Case, no-pair, alone, settled, merging, differing, pairCase}
+use Rattle.bbt.specs.Plans.{refuse, plan, idle, double, refused, readCase, reading, updated, updateFrom, update, target, otherKind, recoverTo, recoverNewer, recoverCase, recovery, Call, for-update, for-recovery, firstPlan}
+use Rattle.bbt.specs.Told.{chipBlock}
+use Rattle.chip.specs.Large.{chipOf, bitmapBytes, pagesOf}
+use Rattle.chip.specs.declared.ChipAnswer.{ChipAnswer}
+use Rattle.chip.specs.declared.ChipAnswer.the-variants.{Chip, Refused as NoChip}
+use Rattle.chip.specs.declared.LargeChip.{LargeChip}
+use Rattle.plan.specs.Answers.{toldAnswer, planAnswer}
+use Rattle.plan.specs.declared.PlanAnswer.the-variants.{Refused as NotPlanned}
+use Rattle.region.specs.Tables.{toldReading, tableAnswer}
+use Rattle.region.specs.declared.TableAnswer.the-variants.{Refused as NotRead}
+use Rattle.reamsickle.specs.Claims.{TableBelow, PlanBelow, BlocksBelow}
+
+-- what is found among the numbers below n is below n
+abbrev FoundBelow : ℕ → Option ℕ → Type 0
+FoundBelow m none = Unit {0}
+FoundBelow m (some b) = b < m
+
+highest-below : (m n : ℕ) (f : ℕ → Bool) → n ≤ m → FoundBelow m (highest n f)
+unfolding highest
+highest-below m zero f h = tt
+highest-below m (suc n) f h = go (f n) (highest-below m n f (omega arith))
+  where
+    go : (t : Bool) → FoundBelow m (highest n f) → FoundBelow m (cond t (some n) (highest n f))
+    go true r = omega arith
+    go false r = r
+
+module _ (n : ℕ) (image status : List ℕ) (chip : LargeChip) (is : chipOf n ≡ Chip chip) where
+  abbrev R : View
+  R = seen chip image status
+
+  below : (b : ℕ) → b < chip .region → chipBlock chip b .0 < n
+  below b h = let v : Valid n chip = chip-valid n chip is in omega arith
+
+  table-case : (c : Case) → Copies chip R c → TableBelow n (toldReading chip (readCase (pagesOf chip) R c))
+  unfolding readCase
+  table-case (no-pair r) x = tt
+  table-case (alone k b) x = tt
+  table-case (settled p m) x = (below p (x .0 .inside), below m (x .1 .inside))
+  table-case (merging p m) x = tt
+  table-case (differing d p m) x = tt
+
+  table-judged : (l s : Bool) → TableBelow n (toldReading chip (judged refused l s (reading chip R)))
+  unfolding reading
+  table-judged true true = table-case (pairCase chip R) (case-copies chip R)
+  table-judged true false = tt
+  table-judged false s = tt
+
+  update-case : (w : List ℕ) (c : Case) → Copies chip R c → PlanBelow n (toldAnswer chip (updateFrom w (readCase (pagesOf chip) R c)))
+  unfolding readCase updateFrom
+  update-case w (no-pair r) x = tt
+  update-case w (alone k b) x = tt
+  update-case w (settled p m) x = go (same (updatedBytes (o .bitmap) w) (o .bitmap))
+    where
+      o : Table
+      o = table (pagesOf chip) R p
+
+      go : (t : Bool) → PlanBelow n (toldAnswer chip (plan (cond t (idle (o .version)) (double p m (updated o w)))))
+      go true = tt
+      go false = (below p (x .0 .inside), below m (x .1 .inside))
+  update-case w (merging p m) x = tt
+  update-case w (differing d p m) x = tt
+
+  recovery-case : (c : Case) → Copies chip R c → PlanBelow n (toldAnswer chip (recoverCase chip R c))
+  unfolding recoverCase recoverTo recoverNewer target
+  recovery-case (no-pair r) x = tt
+  recovery-case (alone k g) x = go (target chip R (g ∷ [])) (highest-below (chip .region) (chip .region) _ (omega arith))
+    where
+      go : (f : Option ℕ) → FoundBelow (chip .region) f → PlanBelow n (toldAnswer chip (recoverTo (otherKind k) g (table (pagesOf chip) R g) f))
+      go none h = tt
+      go (some b) h = below b h
+  recovery-case (settled p m) x = tt
+  recovery-case (merging p m) x = (below p (x .0 .inside), below m (x .1 .inside))
+  recovery-case (differing (pos k) p m) x = below m (x .1 .inside)
+  recovery-case (differing (negsuc k) p m) x = below p (x .0 .inside)
+
+  plan-judged : (call : Call) (l s : Bool) → PlanBelow n (toldAnswer chip (judged refuse l s (firstPlan chip R call)))
+  unfolding firstPlan update reading recovery
+  plan-judged (for-update w) true true = update-case w (pairCase chip R) (case-copies chip R)
+  plan-judged for-recovery true true = recovery-case (pairCase chip R) (case-copies chip R)
+  plan-judged call true false = tt
+  plan-judged call false s = tt
+
+pub blocks-below : (n : ℕ) (image status : List ℕ) → BlocksBelow n image status
+unfolding tableAnswer tableReading lentReading planAnswer lentPlan
+blocks-below n image status = record { tables = λ room. tables room (chipOf n) refl; plans = λ call. plans call (chipOf n) refl }
+  where
+    tables : (room : List ℕ) (a : ChipAnswer) → chipOf n ≡ a
+        → TableBelow n (onChip NotRead a (λ chip. toldReading chip (onChip refused a (λ own. lentReading own image status room))))
+    tables room (NoChip r) e = tt
+    tables room (Chip chip) e = table-judged n image status chip e (regionLent chip image status && eqb (length room) (bitmapBytes chip)) (statusesRight status)
+
+    plans : (call : Call) (a : ChipAnswer) → chipOf n ≡ a → PlanBelow n (onChip NotPlanned a (λ chip. toldAnswer chip (lentPlan chip call image status)))
+    plans call (NoChip r) e = tt
+    plans call (Chip chip) e = plan-judged n image status chip e call (regionLent chip image status && callLent chip call) (statusesRight status)

@@ -1,0 +1,78 @@
+-- The C boundary of the large chip: what an answered call tells above the refusal number, and what each lent buffer holds afterwards.
+-- Every definition is at every input; a refused call leaves what was lent.
+use mathlib.Core.Bool.{cond}
+use mathlib.Core.List.{List, [], _∷_, _++_}
+use Prim.Native.Nat.{ℕ, _+_, _*_, _/_, _%_}
+use lib.Dec.{eqb}
+use lib.ListN.{length, drop}
+use Rattle.bbt.specs.Lent.{onChip}
+use Rattle.bbt.specs.Told.{toldSteps}
+use Rattle.bbt.specs.declared.Step.{Step}
+use Rattle.bbt.specs.declared.Step.the-variants.{Erase, Write, Past}
+use Rattle.bitmap.specs.Made.{firstAnswer}
+use Rattle.bitmap.specs.declared.BitmapAnswer.{BitmapAnswer}
+use Rattle.bitmap.specs.declared.BitmapAnswer.the-variants.{Made, Refused as NotMade}
+use Rattle.chip.specs.Large.{chipOf}
+use Rattle.chip.specs.declared.Refusal.the-variants.{Length}
+use Rattle.plan.specs.declared.PlanAnswer.{PlanAnswer}
+use Rattle.plan.specs.declared.PlanAnswer.the-variants.{Planned, Refused as NotPlanned}
+use Rattle.region.specs.Tables.{tableAnswer}
+use Rattle.region.specs.declared.TableAnswer.{TableAnswer}
+use Rattle.region.specs.declared.TableAnswer.the-variants.{Read, Refused as NotRead}
+use Rattle.reamsickle.specs.Boundary.{refusalCode}
+
+-- ---- ream_first_bitmap
+abbrev pub firstCodeBy : BitmapAnswer → ℕ
+firstCodeBy Made = 0
+firstCodeBy (NotMade r) = refusalCode r
+
+unfoldable pub firstCode : ℕ → List ℕ → List ℕ → ℕ
+firstCode n marks room = firstCodeBy (firstAnswer n marks room)
+
+-- ---- ream_table_read: the version in bits 8-15, the primary's chip block in bits 16-31, the mirror's in bits 32-47; sixteen bits
+-- hold a chip block (`Claims`)
+abbrev pub tableCodeBy : TableAnswer → ℕ
+tableCodeBy (Read version primary mirror) = 256 * version + 65536 * (primary .0 % 65536) + 4294967296 * (mirror .0 % 65536)
+tableCodeBy (NotRead r) = refusalCode r
+
+unfoldable pub tableCode : ℕ → List ℕ → List ℕ → List ℕ → ℕ
+tableCode n image status room = tableCodeBy (tableAnswer n image status room)
+
+-- ---- ream_update_plan, ream_recovery_plan
+-- a step in four bytes: kind, chip block big endian, page. No plan holds a step past its end
+abbrev pub fourBytes : ℕ → ℕ → ℕ → List ℕ
+fourBytes kind block page = kind ∷ block / 256 % 256 ∷ block % 256 ∷ page ∷ []
+
+abbrev pub stepBytes : Step → List ℕ
+stepBytes (Erase b) = fourBytes 0 (b .0) 0
+stepBytes (Write b p k) = fourBytes 1 (b .0) p
+stepBytes Past = fourBytes 0 0 0
+
+unfoldable pub planBytes : List Step → List ℕ
+planBytes [] = []
+planBytes (s ∷ ss) = stepBytes s ++ planBytes ss
+
+-- the lent bytes with the steps put first; those past the last step keep what they held
+unfoldable pub stepsPut : List Step → List ℕ → List ℕ
+stepsPut ss room = planBytes ss ++ drop (4 * length ss) room
+
+-- the version in bits 8-15, the number of steps in bits 16-23
+abbrev pub planCodeBy : PlanAnswer → ℕ
+planCodeBy (Planned q) = 256 * q .version + 65536 * length (toldSteps q)
+planCodeBy (NotPlanned r) = refusalCode r
+
+abbrev pub stepsBy : PlanAnswer → List ℕ → List ℕ
+stepsBy (Planned q) room = stepsPut (toldSteps q) room
+stepsBy (NotPlanned r) room = room
+
+-- N (2), then room for sixteen steps (1), then the answer
+unfoldable pub planCode : ℕ → PlanAnswer → List ℕ → ℕ
+planCode n a room = onChip refusalCode (chipOf n) (λ chip. cond (eqb (length room) 64) (planCodeBy a) (refusalCode Length))
+
+unfoldable pub stepsAfter : ℕ → PlanAnswer → List ℕ → List ℕ
+stepsAfter n a room = onChip (λ r. room) (chipOf n) (λ chip. cond (eqb (length room) 64) (stepsBy a room) room)
+
+-- how many bytes the steps of an answer take
+abbrev pub roomOf : PlanAnswer → ℕ
+roomOf (Planned q) = 4 * length (toldSteps q)
+roomOf (NotPlanned r) = 0

@@ -1,0 +1,5 @@
+pub mod Bytes
+pub mod Locating
+pub mod Bitmaps
+pub mod Copying
+pub mod Judged

@@ -1,0 +1,5 @@
+pub mod Cases
+pub mod Parts
+pub mod Tables
+pub mod Oob
+pub mod Targets

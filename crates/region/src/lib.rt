@@ -1,0 +1,431 @@
+// The code that reads a lent region image: good copies, the pair's case, reading a settled pair, and the OOB bytes of a page.
+ghost use mathlib.Core.List.{_∷_, []};
+ghost use mathlib.Core.Path.{_≡_};
+ghost use Prim.Native.Nat.{_+_, _*_, _<_, _≤_};
+ghost use lib.ListN.{length};
+ghost use Rattle.bbt.specs.Copies.{good, readsBad};
+ghost use Rattle.bbt.specs.Lent.{statusesRight};
+ghost use Rattle.bbt.specs.Pages.{kindOf, versionOf, pageBytes, pageStatus, seen, partLength};
+ghost use Rattle.bbt.specs.Pairs.{same, copies, compared, pairCase};
+ghost use Rattle.bbt.specs.Plans.{target};
+ghost use Rattle.bbt.specs.Stored.{storedParts, storedTable};
+ghost use Rattle.bbt.specs.Told.{toldCase};
+ghost use Rattle.chip.specs.Large.{bitmapBytes, pagesOf};
+ghost use Rattle.region.specs.Cases.{Fits, isSigned, pageMatches, locatedBy, besideLent, caseOn, lentCase};
+ghost use Rattle.region.specs.Oob.{OobOf, oobAnswer, oobOn};
+ghost use Rattle.region.specs.Parts.{partOf};
+ghost use Rattle.region.specs.Tables.{tableAfter, tableAnswer};
+ghost use Rattle.region.specs.Targets.{isFree, toldTarget, lentTarget};
+use bbt::Kind;
+use bbt::PairCase;
+use chip::ChipAnswer;
+use chip::ChipBlock;
+use chip::LargeChip;
+use chip::Refusal;
+use chip::RegionBlock;
+
+// The signature of page i.
+fn kind_at(image: &[u8], i: usize) -> Kind
+    requires { ⌜ (i + 1) * 2112 ≤ length (now image) ⌝ }
+    ensures { λ r. ⌜ r ≡ kindOf (pageBytes (now (image .entry)) i) ⌝ }
+{
+    let at = i * LargeChip::PAGE_WITH_OOB;
+    Kind::of_signature(bits::word_of(
+        image[at + 2062],
+        image[at + 2063],
+        image[at + 2064],
+        image[at + 2065],
+    ))
+}
+
+// Does page i read well, with the signature of a kind and a version?
+fn page_is(image: &[u8], status: &[u8], i: usize, kind: Kind, version: u8) -> bool
+    requires { ⌜ ((i + 1) * 2112 ≤ length (now image)) × (i < length (now status)) ⌝ }
+    ensures { λ r. ⌜ r ≡ pageMatches kind version (pageStatus (now (status .entry)) i) (pageBytes (now (image .entry)) i) ⌝ }
+{
+    if status[i] != 0 {
+        return false;
+    }
+    if kind.signature() != kind_at(image, i).signature() {
+        return false;
+    }
+    version == image[i * LargeChip::PAGE_WITH_OOB + 2066]
+}
+
+// Is region block b a good copy of a kind: its P pages all read well with that signature and one version?
+fn good_copy(chip: LargeChip, image: &[u8], status: &[u8], kind: Kind, b: u8) -> bool
+    requires { ⌜ Fits chip (length (now image)) (length (now status)) × (b < chip .region) × isSigned kind ⌝ }
+    ensures { λ r. ⌜ r ≡ good (pagesOf chip) (seen chip (now (image .entry)) (now (status .entry))) kind b ⌝ }
+{
+    let pages = chip.pages();
+    let first = (b as usize) * pages;
+    let version = image[first * 2112 + 2066];
+    let mut p: usize = 0;
+    while p < pages {
+        if !page_is(image, status, first + p, kind, version) {
+            return false;
+        }
+        p += 1;
+    }
+    true
+}
+
+// Which blocks hold a good copy of a kind.
+enum Located {
+    Nowhere,
+    Only(u8),
+    Several,
+}
+
+// The blocks that hold a good copy of a kind.
+fn locate(chip: LargeChip, image: &[u8], status: &[u8], kind: Kind) -> Located
+    requires { ⌜ Fits chip (length (now image)) (length (now status)) × isSigned kind ⌝ }
+    ensures { λ r. ⌜ r ≡ locatedBy (copies chip (seen chip (now (image .entry)) (now (status .entry))) kind) ⌝ }
+{
+    let region = chip.region;
+    let mut count: u8 = 0;
+    let mut last: u8 = 0;
+    let mut b: u8 = 0;
+    while b < region {
+        if good_copy(chip, image, status, kind, b) {
+            count += 1;
+            last = b;
+        }
+        b += 1;
+    }
+    if count == 0 {
+        return Located::Nowhere;
+    }
+    if count == 1 {
+        return Located::Only(last);
+    }
+    Located::Several
+}
+
+// The bytes of page p that belong to the bitmap.
+fn part_length(chip: LargeChip, p: u8) -> usize
+    ensures { λ r. ⌜ (r ≡ partLength chip p) × (r ≤ 2048) ⌝ }
+{
+    let bytes = chip.bitmap_bytes();
+    let done = 2048 * (p as usize);
+    if bytes <= done {
+        return 0;
+    }
+    let rest = bytes - done;
+    if rest < 2048 { rest } else { 2048 }
+}
+
+// The part of a bitmap that page p of region block b holds, as a part of the image; empty where the image is too short.
+pub fn part(chip: LargeChip, image: &[u8], b: RegionBlock, p: u8) -> &[u8]
+    ensures { λ r. ⌜ now r ≡ partOf chip (now (image .entry)) (b .0) p ⌝ }
+{
+    let n = part_length(chip, p);
+    let at = ((b.0 as usize) * chip.pages() + (p as usize)) * LargeChip::PAGE_WITH_OOB;
+    let end = at + n;
+    if end <= image.len() {
+        &image[at..end]
+    } else {
+        &image[0..0]
+    }
+}
+
+// Do two blocks hold equal bitmaps?
+fn same_bitmaps(chip: LargeChip, image: &[u8], x: RegionBlock, y: RegionBlock) -> bool
+    requires { ⌜ (chip .region * pagesOf chip * 2112 ≤ length (now image)) × (pagesOf chip ≤ 4) × (x .0 < chip .region) × (y .0 < chip .region) ⌝ }
+    ensures { λ r. ⌜ r ≡ same (storedParts chip (now (image .entry)) (x .0) (pagesOf chip)) (storedParts chip (now (image .entry)) (y .0) (pagesOf chip)) ⌝ }
+{
+    let pages = chip.pages();
+    let mut equal = true;
+    let mut p: u8 = 0;
+    while (p as usize) < pages {
+        if !bitmap::same_bytes(part(chip, image, x, p), part(chip, image, y, p)) {
+            equal = false;
+        }
+        p += 1;
+    }
+    equal
+}
+
+// The version that a block's first page shows; 0 where the image is too short.
+pub fn version(chip: LargeChip, image: &[u8], b: RegionBlock) -> u8
+    ensures { λ r. ⌜ r ≡ versionOf (pageBytes (now (image .entry)) (b .0 * pagesOf chip)) ⌝ }
+{
+    let at = (b.0 as usize) * chip.pages() * LargeChip::PAGE_WITH_OOB + 2066;
+    if at < image.len() { image[at] } else { 0 }
+}
+
+// The case of two good copies: the sign of d and its end at -128, then the bitmaps.
+fn both_case(chip: LargeChip, image: &[u8], p: RegionBlock, m: RegionBlock) -> PairCase
+    requires { ⌜ (chip .region * pagesOf chip * 2112 ≤ length (now image)) × (pagesOf chip ≤ 4) × (p .0 < chip .region) × (m .0 < chip .region) ⌝ }
+    ensures { λ r. ⌜ r ≡ toldCase (compared (storedTable chip (now (image .entry)) (p .0)) (storedTable chip (now (image .entry)) (m .0)) (p .0) (m .0)) ⌝ }
+{
+    let d = bbt::version_difference(version(chip, image, p), version(chip, image, m));
+    if d == 0 {
+        if same_bitmaps(chip, image, p, m) {
+            return PairCase::Settled(p, m);
+        }
+        return PairCase::Merging(p, m);
+    }
+    if d == -128 {
+        return PairCase::Refused(Refusal::Opposite);
+    }
+    PairCase::Differing(d, p, m)
+}
+
+// The pair's case.
+fn pair_case(chip: LargeChip, image: &[u8], status: &[u8]) -> PairCase
+    requires { ⌜ Fits chip (length (now image)) (length (now status)) ⌝ }
+    ensures { λ r. ⌜ r ≡ toldCase (pairCase chip (seen chip (now (image .entry)) (now (status .entry)))) ⌝ }
+{
+    let primary = locate(chip, image, status, Kind::Primary);
+    let mirror = locate(chip, image, status, Kind::Mirror);
+    match primary {
+        Located::Several => PairCase::Refused(Refusal::SeveralCopies),
+        Located::Nowhere => match mirror {
+            Located::Several => PairCase::Refused(Refusal::SeveralCopies),
+            Located::Nowhere => PairCase::Refused(Refusal::NoCopy),
+            Located::Only(m) => PairCase::Alone(Kind::Mirror, RegionBlock(m)),
+        },
+        Located::Only(p) => match mirror {
+            Located::Several => PairCase::Refused(Refusal::SeveralCopies),
+            Located::Nowhere => PairCase::Alone(Kind::Primary, RegionBlock(p)),
+            Located::Only(m) => both_case(chip, image, RegionBlock(p), RegionBlock(m)),
+        },
+    }
+}
+
+// Is each status byte 0 or 1?
+fn statuses_right(status: &[u8]) -> bool
+    ensures { λ r. ⌜ r ≡ statusesRight (now (status .entry)) ⌝ }
+{
+    let mut i: usize = 0;
+    while i < status.len() {
+        if 2 <= status[i] {
+            return false;
+        }
+        i += 1;
+    }
+    true
+}
+
+// What is lent beside a region: nothing, or a buffer for a bitmap, by its length.
+pub enum Beside {
+    Nothing,
+    Bitmap(usize),
+}
+
+// The chip and the pair's case, or the refusal of what was lent.
+pub enum LentCase {
+    Case(LargeChip, PairCase),
+    Refused(Refusal),
+}
+
+// Does what is lent beside a region have its length?
+fn beside_lent(chip: LargeChip, beside: Beside) -> bool
+    ensures { λ r. ⌜ r ≡ besideLent chip beside ⌝ }
+{
+    match beside {
+        Beside::Nothing => true,
+        Beside::Bitmap(n) => n == chip.bitmap_bytes(),
+    }
+}
+
+// The case of a region lent on a judged chip.
+fn case_on(chip: LargeChip, beside: Beside, image: &[u8], status: &[u8]) -> LentCase
+    requires { ⌜ (0 < pagesOf chip) × (pagesOf chip ≤ 4) ⌝ }
+    ensures { λ r. ⌜ r ≡ caseOn chip beside (now (image .entry)) (now (status .entry)) ⌝ }
+{
+    if image.len() != chip.region_bytes() {
+        return LentCase::Refused(Refusal::Length);
+    }
+    if status.len() != chip.region_pages() {
+        return LentCase::Refused(Refusal::Length);
+    }
+    if !beside_lent(chip, beside) {
+        return LentCase::Refused(Refusal::Length);
+    }
+    if !statuses_right(status) {
+        return LentCase::Refused(Refusal::Range);
+    }
+    LentCase::Case(chip, pair_case(chip, image, status))
+}
+
+// The pair's case of a lent region: N is judged, then lengths, then status bytes.
+pub fn case_of(n: u64, beside: Beside, image: &[u8], status: &[u8]) -> LentCase
+    ensures { λ r. ⌜ r ≡ lentCase n beside (now (image .entry)) (now (status .entry)) ⌝ }
+{
+    match LargeChip::new(n) {
+        ChipAnswer::Refused(r) => LentCase::Refused(r),
+        ChipAnswer::Chip(chip) => case_on(chip, beside, image, status),
+    }
+}
+
+// Is region block b readable as bad: its first page reads well, has neither signature, and OOB byte 0 is 0?
+fn reads_bad(chip: LargeChip, image: &[u8], status: &[u8], b: u8) -> bool
+    requires { ⌜ Fits chip (length (now image)) (length (now status)) × (b < chip .region) ⌝ }
+    ensures { λ r. ⌜ r ≡ readsBad (seen chip (now (image .entry)) (now (status .entry))) b ⌝ }
+{
+    let first = (b as usize) * chip.pages();
+    if status[first] != 0 {
+        return false;
+    }
+    if kind_at(image, first).signature() != Kind::Neither.signature() {
+        return false;
+    }
+    image[first * LargeChip::PAGE_WITH_OOB + 2048] == 0
+}
+
+// May region block b be a target beside the block to avoid?
+fn is_free(chip: LargeChip, image: &[u8], status: &[u8], avoid: RegionBlock, b: u8) -> bool
+    requires { ⌜ Fits chip (length (now image)) (length (now status)) × (b < chip .region) ⌝ }
+    ensures { λ r. ⌜ r ≡ isFree (seen chip (now (image .entry)) (now (status .entry))) (avoid .0 ∷ []) b ⌝ }
+{
+    if b == avoid.0 {
+        return false;
+    }
+    !reads_bad(chip, image, status, b)
+}
+
+// The target of a recovery, or none.
+pub enum TargetAnswer {
+    Found(RegionBlock),
+    Missing,
+}
+
+// The highest block that is neither the one to avoid nor readable as bad.
+fn highest_free(chip: LargeChip, image: &[u8], status: &[u8], avoid: RegionBlock) -> TargetAnswer
+    requires { ⌜ Fits chip (length (now image)) (length (now status)) ⌝ }
+    ensures { λ r. ⌜ r ≡ toldTarget (target chip (seen chip (now (image .entry)) (now (status .entry))) (avoid .0 ∷ [])) ⌝ }
+{
+    let region = chip.region;
+    let mut found = false;
+    let mut last: u8 = 0;
+    let mut b: u8 = 0;
+    while b < region {
+        if is_free(chip, image, status, avoid, b) {
+            found = true;
+            last = b;
+        }
+        b += 1;
+    }
+    if found {
+        return TargetAnswer::Found(RegionBlock(last));
+    }
+    TargetAnswer::Missing
+}
+
+// The target of a recovery beside a good copy; none where N or a length is wrong.
+pub fn find_target(n: u64, image: &[u8], status: &[u8], avoid: RegionBlock) -> TargetAnswer
+    ensures { λ r. ⌜ r ≡ lentTarget n (now (image .entry)) (now (status .entry)) (avoid .0) ⌝ }
+{
+    match LargeChip::new(n) {
+        ChipAnswer::Refused(_) => TargetAnswer::Missing,
+        ChipAnswer::Chip(chip) => {
+            if image.len() != chip.region_bytes() {
+                return TargetAnswer::Missing;
+            }
+            if status.len() != chip.region_pages() {
+                return TargetAnswer::Missing;
+            }
+            highest_free(chip, image, status, avoid)
+        }
+    }
+}
+
+// Copies the bitmap of region block b.
+fn copy_bitmap(chip: LargeChip, image: &[u8], b: RegionBlock, out: &mut [u8])
+    requires { ⌜ (chip .region * pagesOf chip * 2112 ≤ length (now image)) × (0 < pagesOf chip) × (pagesOf chip ≤ 4) × (b .0 < chip .region) × (length (now out) ≡ bitmapBytes chip) ⌝ }
+    ensures { λ _. ⌜ now (out .exit) ≡ storedParts chip (now (image .entry)) (b .0) (pagesOf chip) ⌝ }
+{
+    let pages = chip.pages();
+    let mut from: usize = 0;
+    let mut p: u8 = 0;
+    while (p as usize) < pages {
+        let bytes = part(chip, image, b, p);
+        let end = from + bytes.len();
+        bits::copy(bytes, &mut out[from..end]);
+        from = end;
+        p += 1;
+    }
+}
+
+// What reading a pair tells: its version, the primary's block and the mirror's, or a refusal.
+pub enum TableAnswer {
+    Read(u8, ChipBlock, ChipBlock),
+    Refused(Refusal),
+}
+
+// Reads a settled pair: its bitmap goes into `bitmap`, which is left alone beside a refusal.
+pub fn read_table(n: u64, image: &[u8], status: &[u8], bitmap: &mut [u8]) -> TableAnswer
+    ensures answer { λ r. ⌜ r ≡ tableAnswer n (now (image .entry)) (now (status .entry)) (now (bitmap .entry)) ⌝ }
+    ensures out { λ _. ⌜ now (bitmap .exit) ≡ tableAfter n (now (image .entry)) (now (status .entry)) (now (bitmap .entry)) ⌝ }
+{
+    match case_of(n, Beside::Bitmap(bitmap.len()), image, status) {
+        LentCase::Refused(r) => TableAnswer::Refused(r),
+        LentCase::Case(chip, c) => match c {
+            PairCase::Refused(r) => TableAnswer::Refused(r),
+            PairCase::Alone(_, _) => TableAnswer::Refused(Refusal::NotSettled),
+            PairCase::Settled(p, m) => {
+                copy_bitmap(chip, image, p, bitmap);
+                TableAnswer::Read(
+                    version(chip, image, p),
+                    bbt::chip_block(chip, p),
+                    bbt::chip_block(chip, m),
+                )
+            }
+            PairCase::Merging(_, _) => TableAnswer::Refused(Refusal::NotSettled),
+            PairCase::Differing(_, _, _) => TableAnswer::Refused(Refusal::NotSettled),
+        },
+    }
+}
+
+// What is told of a page's OOB bytes: they are given, or refused.
+pub enum OobAnswer {
+    Given,
+    Refused(Refusal),
+}
+
+// Judges a request for OOB bytes on a judged chip: the image's length, then block and page.
+fn oob_on(chip: LargeChip, length: usize, block: RegionBlock, page: u8) -> OobAnswer
+    ensures { λ r. ⌜ r ≡ oobOn chip length (block .0) page ⌝ }
+{
+    if length != chip.region_bytes() {
+        return OobAnswer::Refused(Refusal::Length);
+    }
+    if chip.region <= block.0 {
+        return OobAnswer::Refused(Refusal::Range);
+    }
+    if chip.pages() <= (page as usize) {
+        return OobAnswer::Refused(Refusal::Range);
+    }
+    OobAnswer::Given
+}
+
+// Judges a request for OOB bytes: N, then the image's length, then block and page.
+pub fn oob_answer(n: u64, length: usize, block: RegionBlock, page: u8) -> OobAnswer
+    ensures { λ r. ⌜ r ≡ oobAnswer n length (block .0) page ⌝ }
+{
+    match LargeChip::new(n) {
+        ChipAnswer::Refused(r) => OobAnswer::Refused(r),
+        ChipAnswer::Chip(chip) => oob_on(chip, length, block, page),
+    }
+}
+
+// The 64 OOB bytes of a page, as a part of the image; an empty part beside a refusal.
+pub fn oob(n: u64, image: &[u8], block: RegionBlock, page: u8) -> &[u8]
+    ensures { λ r. ⌜ OobOf n (image .entry) (block .0) page r ⌝ }
+{
+    match LargeChip::new(n) {
+        ChipAnswer::Refused(_) => &image[..0],
+        ChipAnswer::Chip(chip) => match oob_on(chip, image.len(), block, page) {
+            OobAnswer::Refused(_) => &image[..0],
+            OobAnswer::Given => {
+                let at = ((block.0 as usize) * chip.pages() + (page as usize))
+                    * LargeChip::PAGE_WITH_OOB
+                    + LargeChip::PAGE;
+                let end = at + LargeChip::OOB;
+                &image[at..end]
+            }
+        },
+    }
+}

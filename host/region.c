@@ -1,0 +1,81 @@
+/* A region of the large chip in memory. */
+#include "region.h"
+
+#include <string.h>
+
+static const uint8_t signatures[KINDS][4] = {
+	[PRIMARY] = { 0x42, 0x62, 0x74, 0x30 },
+	[MIRROR] = { 0x31, 0x74, 0x62, 0x42 },
+};
+
+size_t region_image_len(const struct region *region)
+{
+	return (size_t)REGION_BLOCKS * region->pages * PAGE_BYTES;
+}
+
+size_t region_status_len(const struct region *region)
+{
+	return (size_t)REGION_BLOCKS * region->pages;
+}
+
+size_t region_part_len(const struct region *region, unsigned page)
+{
+	const size_t rest = (size_t)region->n / 4 - (size_t)page * PAGE_DATA;
+
+	return rest < PAGE_DATA ? rest : PAGE_DATA;
+}
+
+uint8_t *region_data(struct region *region, unsigned block, unsigned page)
+{
+	return region->image + (size_t)(block * region->pages + page) * PAGE_BYTES;
+}
+
+uint8_t *region_oob(struct region *region, unsigned block, unsigned page)
+{
+	return region_data(region, block, page) + PAGE_DATA;
+}
+
+uint8_t *region_status(struct region *region, unsigned block, unsigned page)
+{
+	return region->status + block * region->pages + page;
+}
+
+void region_begin(struct region *region, uint64_t n)
+{
+	region->n = n;
+	region->pages = 1;
+	while (region->pages * (uint64_t)PAGE_DATA < n / 4)
+		region->pages++;
+	for (unsigned block = 0; block < REGION_BLOCKS; block++)
+		region_erase(region, block);
+}
+
+void region_erase(struct region *region, unsigned block)
+{
+	memset(region_data(region, block, 0), 0xFF, (size_t)region->pages * PAGE_BYTES);
+	memset(region_status(region, block, 0), 0, region->pages);
+}
+
+void region_sign(struct region *region, unsigned block, unsigned page, enum kind kind)
+{
+	memcpy(region_oob(region, block, page) + SIGNATURE, signatures[kind], 4);
+}
+
+void region_write(struct region *region, unsigned block, unsigned page, enum kind kind, uint8_t version,
+		  const uint8_t *table)
+{
+	uint8_t *data = region_data(region, block, page);
+
+	memset(data, 0xFF, PAGE_BYTES);
+	memcpy(data, table + (size_t)page * PAGE_DATA, region_part_len(region, page));
+	region_sign(region, block, page, kind);
+	region_oob(region, block, page)[VERSION] = version;
+	*region_status(region, block, page) = 0;
+}
+
+void region_copy(struct region *region, unsigned block, enum kind kind, uint8_t version, const uint8_t *table)
+{
+	region_erase(region, block);
+	for (unsigned page = 0; page < region->pages; page++)
+		region_write(region, block, page, kind, version, table);
+}

@@ -1,0 +1,61 @@
+/*
+ * A region of the large chip in memory, laid out as document 01 has it, for the host programs to lend.
+ * Blocks are counted from 0 for the region's lowest to 3, pages from 0 to P - 1.
+ */
+#ifndef REGION_H
+#define REGION_H
+
+#include <stddef.h>
+#include <stdint.h>
+
+enum {
+	REGION_BLOCKS = 4,
+	PAGE_DATA = 2048,
+	PAGE_OOB = 64,
+	PAGE_BYTES = PAGE_DATA + PAGE_OOB,
+	MOST_BLOCKS = 32768,	/* the largest N */
+	MOST_BITMAP = 8192,	/* its N/4 */
+	MOST_PAGES = 4,		/* its P */
+	SIGNATURE = 14,		/* the first OOB byte of the signature, which has four */
+	VERSION = 18,		/* the OOB byte of the version */
+};
+
+/* The two kinds of a copy of the table. */
+enum kind { PRIMARY, MIRROR, KINDS };
+
+struct region {
+	uint64_t n;		/* the chip's blocks, N */
+	unsigned pages;		/* P */
+	uint8_t image[REGION_BLOCKS * MOST_PAGES * PAGE_BYTES];
+	uint8_t status[REGION_BLOCKS * MOST_PAGES];
+};
+
+/* How many bytes of image and status are lent. */
+size_t region_image_len(const struct region *region);
+size_t region_status_len(const struct region *region);
+
+/* How many bytes of the bitmap a page holds. */
+size_t region_part_len(const struct region *region, unsigned page);
+
+/* A page's data, its OOB and its status byte. */
+uint8_t *region_data(struct region *region, unsigned block, unsigned page);
+uint8_t *region_oob(struct region *region, unsigned block, unsigned page);
+uint8_t *region_status(struct region *region, unsigned block, unsigned page);
+
+/* A region of a chip with n blocks, every page blank. */
+void region_begin(struct region *region, uint64_t n);
+
+/* Makes all pages of a block blank. */
+void region_erase(struct region *region, unsigned block);
+
+/* Sets the signature of a page. */
+void region_sign(struct region *region, unsigned block, unsigned page, enum kind kind);
+
+/* Writes a page of a copy of `table`, an array of N/4 bytes. */
+void region_write(struct region *region, unsigned block, unsigned page, enum kind kind, uint8_t version,
+		  const uint8_t *table);
+
+/* Erases a block and writes all pages of a copy there. */
+void region_copy(struct region *region, unsigned block, enum kind kind, uint8_t version, const uint8_t *table);
+
+#endif

@@ -1,0 +1,429 @@
+/* Regions made to order, and what document 01 says of each. */
+#include "scenes.h"
+
+#include <string.h>
+
+#include "draw.h"
+#include "reamsickle.h"
+
+/* ---- casts */
+
+struct cast cast_settled(uint64_t n, unsigned primary, unsigned mirror, uint8_t version)
+{
+	struct cast cast = { n, { BLANK, BLANK, BLANK, BLANK }, { version, version }, true, 0, UNREADABLE };
+
+	cast.role[primary] = GOOD_PRIMARY;
+	cast.role[mirror] = GOOD_MIRROR;
+	return cast;
+}
+
+void cast_draw_spoilt(struct test *test, struct cast *cast)
+{
+	const unsigned pages = ream_table_pages(cast->n);
+
+	cast->page = (unsigned)draw_below(&test->state, pages);
+	cast->way = (enum way)draw_below(&test->state, pages == 1 ? OTHER_SIGNATURE : WAYS);
+}
+
+static bool is_good(enum role role, enum kind kind)
+{
+	if (kind == MIRROR)
+		return role == GOOD_MIRROR;
+	return role == GOOD_PRIMARY || role == MARKED_PRIMARY;
+}
+
+/* ---- building */
+
+/* Spoils the page of a copy of a kind. Where its block's first page is unreadable or still signed, a mark
+ * there does not count, so one is set by chance. */
+static void spoil(struct test *test, struct region *region, unsigned block, enum kind kind,
+		  const struct cast *cast)
+{
+	const bool first_unsigned = cast->page == 0 && (cast->way == BLANKED || cast->way == WRONG_SIGNATURE);
+	uint8_t *oob = region_oob(region, block, cast->page);
+
+	switch (cast->way) {
+	case UNREADABLE:
+		*region_status(region, block, cast->page) = 1;
+		break;
+	case BLANKED:
+		memset(region_data(region, block, cast->page), 0xFF, PAGE_BYTES);
+		break;
+	case WRONG_SIGNATURE:
+		oob[SIGNATURE + draw_below(&test->state, 4)] ^= (uint8_t)(1 << draw_below(&test->state, 8));
+		break;
+	case OTHER_SIGNATURE:
+		region_sign(region, block, cast->page, kind == PRIMARY ? MIRROR : PRIMARY);
+		break;
+	case OTHER_VERSION:
+		oob[VERSION] ^= (uint8_t)(1 + draw_below(&test->state, 255));
+		break;
+	case WAYS:
+		break;
+	}
+	if (!first_unsigned && draw_below(&test->state, 2) == 0)
+		region_oob(region, block, 0)[0] = 0;
+}
+
+/* A block with a mark and no signature on its first page: blank otherwise, or with drawn bytes there, or
+ * with a copy whose first page alone has lost its signature. */
+static void mark(struct test *test, struct scene *scene, unsigned block, const struct cast *cast)
+{
+	struct region *region = &scene->region;
+	uint8_t *oob = region_oob(region, block, 0);
+
+	switch (draw_below(&test->state, 3)) {
+	case 0:
+		break;
+	case 1:
+		draw_bytes(&test->state, oob, PAGE_OOB);
+		oob[SIGNATURE] = 0;
+		break;
+	default:
+		region_copy(region, block, PRIMARY, cast->version[PRIMARY], scene->table[PRIMARY]);
+		oob[SIGNATURE + draw_below(&test->state, 4)] ^= (uint8_t)(1 << draw_below(&test->state, 8));
+		break;
+	}
+	oob[0] = 0;
+}
+
+static void play(struct test *test, struct scene *scene, unsigned block, const struct cast *cast)
+{
+	const enum role role = cast->role[block];
+	const enum kind kind = role == GOOD_MIRROR || role == SPOILT_MIRROR ? MIRROR : PRIMARY;
+	struct region *region = &scene->region;
+
+	switch (role) {
+	case GOOD_PRIMARY:
+	case GOOD_MIRROR:
+		region_copy(region, block, kind, cast->version[kind], scene->table[kind]);
+		break;
+	case MARKED_PRIMARY:
+		region_copy(region, block, kind, cast->version[kind], scene->table[kind]);
+		region_oob(region, block, 0)[0] = 0;
+		break;
+	case BLANK:
+		break;
+	case MARKED:
+		mark(test, scene, block, cast);
+		break;
+	case MARKED_UNREADABLE:
+		mark(test, scene, block, cast);
+		*region_status(region, block, 0) = 1;
+		break;
+	case MARKED_LATER:
+		for (unsigned page = 1; page < region->pages; page++)
+			region_oob(region, block, page)[0] = 0;
+		break;
+	case SPOILT_PRIMARY:
+	case SPOILT_MIRROR:
+		region_copy(region, block, kind, cast->version[kind], scene->table[kind]);
+		spoil(test, region, block, kind, cast);
+		break;
+	case ROLES:
+		break;
+	}
+}
+
+void scene_rebuild(struct test *test, struct scene *scene, const struct cast *cast)
+{
+	region_begin(&scene->region, cast->n);
+	for (unsigned block = 0; block < REGION_BLOCKS; block++)
+		play(test, scene, block, cast);
+}
+
+/* A bitmap of which most entries are good, as in a chip's life; one in four is anything. */
+static void draw_table(struct test *test, uint8_t *table, uint64_t n)
+{
+	if (draw_below(&test->state, 4) == 0) {
+		draw_bytes(&test->state, table, (size_t)n / 4);
+		return;
+	}
+	memset(table, 0xFF, (size_t)n / 4);
+	for (uint64_t i = draw_below(&test->state, 8); i > 0; i--)
+		ream_entry_set(table, draw_below(&test->state, n), (unsigned)draw_below(&test->state, 4));
+}
+
+void scene_build(struct test *test, struct scene *scene, const struct cast *cast)
+{
+	const size_t len = (size_t)cast->n / 4;
+
+	draw_table(test, scene->table[PRIMARY], cast->n);
+	memcpy(scene->table[MIRROR], scene->table[PRIMARY], len);
+	if (!cast->equal)
+		scene->table[MIRROR][draw_below(&test->state, len)] ^= (uint8_t)(1 << draw_below(&test->state, 8));
+	draw_table(test, scene->wanted, cast->n);
+	memset(scene->marks, 0xFF, (size_t)cast->n);
+	scene->marks[draw_below(&test->state, cast->n)] = 0;
+	scene_rebuild(test, scene, cast);
+}
+
+void scene_stir(struct test *test, struct scene *scene)
+{
+	struct region *region = &scene->region;
+
+	for (unsigned block = 0; block < REGION_BLOCKS; block++) {
+		for (unsigned page = 0; page < region->pages; page++) {
+			uint8_t *data = region_data(region, block, page);
+			uint8_t *oob = region_oob(region, block, page);
+			const size_t part = region_part_len(region, page);
+
+			if (*region_status(region, block, page) == 1) {
+				draw_bytes(&test->state, data, PAGE_BYTES);
+				continue;
+			}
+			draw_bytes(&test->state, data + part, PAGE_DATA - part);
+			draw_bytes(&test->state, oob + 1, SIGNATURE - 1);
+			draw_bytes(&test->state, oob + VERSION + 1, PAGE_OOB - VERSION - 1);
+			if (page > 0)
+				oob[0] = (uint8_t)draw(&test->state);
+			else if (oob[0] != 0)
+				oob[0] = (uint8_t)(1 + draw_below(&test->state, 255));
+		}
+	}
+}
+
+/* ---- calls */
+
+void scene_set_up(struct test *test, enum entry_index index, const void *inputs)
+{
+	const struct scene *scene = inputs;
+	const struct region *region = &scene->region;
+
+	call_begin_large(test, index, region->n);
+	if (index == FIRST_BITMAP) {
+		call_lend(test, 0, scene->marks, (size_t)region->n);
+		return;
+	}
+	call_lend(test, 0, region->image, region_image_len(region));
+	call_lend(test, 1, region->status, region_status_len(region));
+	if (index == UPDATE_PLAN)
+		call_lend(test, 2, scene->wanted, (size_t)region->n / 4);
+}
+
+uint64_t scene_call(struct test *test, enum entry_index index, const struct scene *scene)
+{
+	scene_set_up(test, index, scene);
+	return call_compare(test);
+}
+
+/* ---- outcomes */
+
+/* A plan: the copies that it makes, one after the other. */
+struct plan {
+	uint8_t version;
+	unsigned copies;
+	enum kind kind[KINDS];
+	unsigned block[KINDS];	/* of the region */
+};
+
+/* What is to be expected of a cast. */
+struct outcome {
+	unsigned reading;	/* the refusal of reading and of planning an update, or REAM_OK */
+	unsigned recovery;	/* the refusal of planning a recovery, or REAM_OK */
+	unsigned block[KINDS];	/* where the good copy of each kind is, if there is one */
+	struct plan plan;	/* recovery's, if not refused */
+};
+
+static void plan_add(struct plan *plan, enum kind kind, unsigned block)
+{
+	plan->kind[plan->copies] = kind;
+	plan->block[plan->copies] = block;
+	plan->copies++;
+}
+
+/* Both kinds good, one of each. */
+static void outcome_of_both(struct outcome *outcome, struct scene *scene, const struct cast *cast)
+{
+	const uint8_t ahead = (uint8_t)(cast->version[PRIMARY] - cast->version[MIRROR]);
+	const enum kind newer = ahead < 128 ? PRIMARY : MIRROR;
+	const enum kind older = newer == PRIMARY ? MIRROR : PRIMARY;
+
+	outcome->plan.version = cast->version[newer];
+	memcpy(scene->made, scene->table[newer], (size_t)cast->n / 4);
+	if (ahead == 0 && cast->equal)
+		return;
+	outcome->reading = REAM_NOT_SETTLED;
+	if (ahead == 128) {
+		outcome->reading = outcome->recovery = REAM_OPPOSITE;
+	} else if (ahead != 0) {
+		plan_add(&outcome->plan, older, outcome->block[older]);
+	} else {
+		outcome->plan.version++;
+		plan_add(&outcome->plan, PRIMARY, outcome->block[PRIMARY]);
+		plan_add(&outcome->plan, MIRROR, outcome->block[MIRROR]);
+		for (size_t i = 0; i < cast->n / 4; i++)
+			scene->made[i] = scene->table[PRIMARY][i] & scene->table[MIRROR][i];
+	}
+}
+
+/* One kind alone good. The last block that will do is the highest. */
+static void outcome_of_one(struct outcome *outcome, struct scene *scene, const struct cast *cast, enum kind good)
+{
+	unsigned target = REGION_BLOCKS;
+
+	outcome->reading = REAM_NOT_SETTLED;
+	for (unsigned block = 0; block < REGION_BLOCKS; block++)
+		if (block != outcome->block[good] && cast->role[block] != MARKED)
+			target = block;
+	if (target == REGION_BLOCKS) {
+		outcome->recovery = REAM_NO_TARGET;
+		return;
+	}
+	outcome->plan.version = cast->version[good];
+	plan_add(&outcome->plan, good == PRIMARY ? MIRROR : PRIMARY, target);
+	memcpy(scene->made, scene->table[good], (size_t)cast->n / 4);
+}
+
+static struct outcome outcome_of(struct scene *scene, const struct cast *cast)
+{
+	struct outcome outcome = { REAM_OK, REAM_OK, { 0, 0 }, { 0, 0, { PRIMARY, PRIMARY }, { 0, 0 } } };
+	unsigned good[KINDS] = { 0, 0 };
+
+	for (unsigned block = 0; block < REGION_BLOCKS; block++) {
+		for (unsigned kind = 0; kind < KINDS; kind++) {
+			if (is_good(cast->role[block], (enum kind)kind)) {
+				good[kind]++;
+				outcome.block[kind] = block;
+			}
+		}
+	}
+	if (good[PRIMARY] > 1 || good[MIRROR] > 1)
+		outcome.reading = outcome.recovery = REAM_SEVERAL_COPIES;
+	else if (good[PRIMARY] + good[MIRROR] == 0)
+		outcome.reading = outcome.recovery = REAM_NO_COPY;
+	else if (good[PRIMARY] + good[MIRROR] == 2)
+		outcome_of_both(&outcome, scene, cast);
+	else
+		outcome_of_one(&outcome, scene, cast, good[PRIMARY] == 1 ? PRIMARY : MIRROR);
+	return outcome;
+}
+
+bool update_changes(const uint8_t *old, const uint8_t *wanted, uint64_t n)
+{
+	for (uint64_t block = 0; block < n; block++)
+		if (ream_entry_get(old, block) == REAM_ENTRY_GOOD && ream_entry_get(wanted, block) != REAM_ENTRY_GOOD)
+			return true;
+	return false;
+}
+
+/* The plan of an update of a settled pair, and in scene->made the table that it makes. */
+static struct plan update_of(struct scene *scene, const struct cast *cast, const struct outcome *outcome)
+{
+	const uint8_t *old = scene->table[PRIMARY];
+	struct plan plan = outcome->plan;
+
+	memcpy(scene->made, old, (size_t)cast->n / 4);
+	if (!update_changes(old, scene->wanted, cast->n))
+		return plan;
+	for (uint64_t block = 0; block < cast->n; block++)
+		if (ream_entry_get(old, block) == REAM_ENTRY_GOOD)
+			ream_entry_set(scene->made, block, ream_entry_get(scene->wanted, block));
+	plan.version++;
+	plan_add(&plan, PRIMARY, outcome->block[PRIMARY]);
+	plan_add(&plan, MIRROR, outcome->block[MIRROR]);
+	return plan;
+}
+
+/* ---- expectations */
+
+/* The last call read a settled pair. */
+static void expect_table(struct test *test, uint64_t n, uint8_t version, const unsigned *block,
+			 const uint8_t *table)
+{
+	expect(test, ream_refusal(test->answer) == REAM_OK, "a settled pair is read");
+	expect(test, ream_version(test->answer) == version, "the version");
+	expect(test, ream_primary_block(test->answer) == n - 4 + block[PRIMARY], "the primary's chip block");
+	expect(test, ream_mirror_block(test->answer) == n - 4 + block[MIRROR], "the mirror's chip block");
+	expect(test, test->answer >> 48 == 0, "nothing in the bits above");
+	expect(test, memcmp(call_left(test, 2), table, (size_t)n / 4) == 0, "the table");
+}
+
+static void expect_step(struct test *test, const uint8_t *bytes, unsigned kind, uint64_t block, unsigned page)
+{
+	const struct ream_step step = ream_step_get(bytes);
+
+	expect(test, step.kind == kind, "a step's kind");
+	expect(test, step.block == block, "a step's chip block");
+	expect(test, step.page == page, "a step's page");
+}
+
+/* The last call gave this plan: for each copy its block is erased, then its pages are written in rising
+ * order. Bytes past the last step are as they were lent. */
+static void expect_plan(struct test *test, const struct region *region, const struct plan *plan)
+{
+	const unsigned buffer = test->call.index == UPDATE_PLAN ? 3 : 2;
+	const unsigned count = plan->copies * (region->pages + 1);
+	const uint8_t *steps = call_left(test, buffer);
+	const uint8_t *at = steps;
+
+	expect(test, ream_refusal(test->answer) == REAM_OK, "a plan is given");
+	expect(test, ream_version(test->answer) == plan->version, "the plan's version");
+	expect(test, ream_step_count(test->answer) == count, "0, P + 1 or 2P + 2 steps");
+	expect(test, test->answer >> 24 == 0, "nothing in the bits above");
+	for (unsigned copy = 0; copy < plan->copies; copy++) {
+		const uint64_t block = region->n - 4 + plan->block[copy];
+
+		expect_step(test, at, REAM_ERASE, block, 0);
+		at += REAM_STEP_SIZE;
+		for (unsigned page = 0; page < region->pages; page++) {
+			expect_step(test, at, REAM_WRITE, block, page);
+			at += REAM_STEP_SIZE;
+		}
+	}
+	expect(test, memcmp(at, test->call.bytes[buffer] + (at - steps), (size_t)(steps + 64 - at)) == 0,
+	       "bytes past the plan's end keep what they held");
+}
+
+/* Gives the plan there is to carry out: an update's of a settled pair, otherwise recovery's. */
+static struct plan expect_outcome(struct test *test, struct scene *scene, const struct cast *cast,
+				  const struct outcome *outcome)
+{
+	struct plan plan = outcome->plan;
+
+	scene_call(test, TABLE_READ, scene);
+	if (outcome->reading == REAM_OK)
+		expect_table(test, cast->n, plan.version, outcome->block, scene->table[PRIMARY]);
+	else
+		expect_answer(test, outcome->reading, "the refusal of reading");
+
+	scene_call(test, RECOVERY_PLAN, scene);
+	if (outcome->recovery == REAM_OK)
+		expect_plan(test, &scene->region, &plan);
+	else
+		expect_answer(test, outcome->recovery, "the refusal of recovery");
+
+	scene_call(test, UPDATE_PLAN, scene);
+	if (outcome->reading == REAM_OK) {
+		plan = update_of(scene, cast, outcome);
+		expect_plan(test, &scene->region, &plan);
+	} else {
+		expect_answer(test, outcome->reading, "the refusal of an update");
+	}
+	return plan;
+}
+
+void expect_cast(struct test *test, struct scene *scene, const struct cast *cast)
+{
+	const struct outcome outcome = outcome_of(scene, cast);
+
+	expect_outcome(test, scene, cast, &outcome);
+}
+
+void expect_cast_carried_out(struct test *test, struct scene *scene, const struct cast *cast)
+{
+	struct outcome outcome = outcome_of(scene, cast);
+	struct plan plan = expect_outcome(test, scene, cast, &outcome);
+
+	if (outcome.recovery != REAM_OK)
+		return;
+	for (unsigned copy = 0; copy < plan.copies; copy++) {
+		region_copy(&scene->region, plan.block[copy], plan.kind[copy], plan.version, scene->made);
+		outcome.block[plan.kind[copy]] = plan.block[copy];
+	}
+	plan.copies = 0;
+	scene_call(test, TABLE_READ, scene);
+	expect_table(test, cast->n, plan.version, outcome.block, scene->made);
+	scene_call(test, RECOVERY_PLAN, scene);
+	expect_plan(test, &scene->region, &plan);
+}

@@ -1,0 +1,85 @@
+/*
+ * Regions made to order, and what document 01 says of each.
+ *
+ * A cast says what each block of a region is to be and how the two kinds' versions and tables stand to each
+ * other. scene_build() makes such a region, with the bytes that are left open drawn. expect_cast() calls the
+ * region's three entries on it and expects the outcome that follows from the cast alone, with no look at a
+ * byte of the region: a second opinion beside the reference's.
+ */
+#ifndef SCENES_H
+#define SCENES_H
+
+#include <stdbool.h>
+#include <stdint.h>
+
+#include "calls.h"
+#include "region.h"
+
+/* What a block is to be. */
+enum role {
+	GOOD_PRIMARY,
+	GOOD_MIRROR,
+	MARKED_PRIMARY,		/* good too: a mark beside a signature does not count */
+	BLANK,
+	MARKED,			/* readable as bad */
+	MARKED_UNREADABLE,	/* the same with an unreadable first page: not readable as bad */
+	MARKED_LATER,		/* marks on the pages past the first: they do not count */
+	SPOILT_PRIMARY,		/* a copy with one page spoilt */
+	SPOILT_MIRROR,
+	ROLES,
+};
+
+/* How a page is spoilt. The last two are for copies of several pages: they turn a single page into a good
+ * copy of another kind or version. */
+enum way { UNREADABLE, BLANKED, WRONG_SIGNATURE, OTHER_SIGNATURE, OTHER_VERSION, WAYS };
+
+struct cast {
+	uint64_t n;
+	enum role role[REGION_BLOCKS];
+	uint8_t version[KINDS];
+	bool equal;		/* do both kinds hold the same table? */
+	unsigned page;		/* the page of spoilt copies that is spoilt */
+	enum way way;		/* and how */
+};
+
+/* What the large chip's entries are lent, and the tables in it. */
+struct scene {
+	struct region region;
+	uint8_t wanted[MOST_BITMAP];
+	uint8_t marks[MOST_BLOCKS];
+	uint8_t table[KINDS][MOST_BITMAP];	/* what the copies of each kind hold */
+	uint8_t made[MOST_BITMAP];		/* what a plan has to make of them */
+};
+
+/* A cast of a settled pair in these blocks, the others blank. */
+struct cast cast_settled(uint64_t n, unsigned primary, unsigned mirror, uint8_t version);
+
+/* Draws the page and the way of a cast's spoilt copies. */
+void cast_draw_spoilt(struct test *test, struct cast *cast);
+
+/* Makes a region of this cast, with tables, wanted bitmap and marks drawn. */
+void scene_build(struct test *test, struct scene *scene, const struct cast *cast);
+
+/* The region of this cast anew, from the tables as they are. */
+void scene_rebuild(struct test *test, struct scene *scene, const struct cast *cast);
+
+/* Draws anew every byte of the region that must not count. */
+void scene_stir(struct test *test, struct scene *scene);
+
+/* Sets up a call of an entry, every length as named; `inputs` is a scene. */
+void scene_set_up(struct test *test, enum entry_index index, const void *inputs);
+
+/* Makes it. */
+uint64_t scene_call(struct test *test, enum entry_index index, const struct scene *scene);
+
+/* Does an update change anything: is an entry good in `old` and not good in `wanted`? */
+bool update_changes(const uint8_t *old, const uint8_t *wanted, uint64_t n);
+
+/* The outcome of each of the region's three entries. */
+void expect_cast(struct test *test, struct scene *scene, const struct cast *cast);
+
+/* The same, and then the plans are carried out, with a table of the test's own making: the pair is settled
+ * and holds that table. The scene's region is lost. */
+void expect_cast_carried_out(struct test *test, struct scene *scene, const struct cast *cast);
+
+#endif
