@@ -16,17 +16,21 @@ use Rattle.bbt.specs.Plans.{Step, erase, write, Plan, stepsOf, Answer, r
 unfoldable pub chunk : ℕ → List ℕ → List ℕ
 chunk p bitmap = take 2048 (drop (2048 * p) bitmap)
 
--- 2,048 data bytes: the table's part, the rest FF
-unfoldable pub imageData : Table → ℕ → List ℕ
-imageData t p = chunk p (t .bitmap) ++ replicate (2048 - length (chunk p (t .bitmap))) 255
+-- 2,048 data bytes: a part of a table, the rest FF
+unfoldable pub imageData : List ℕ → List ℕ
+imageData part = part ++ replicate (2048 - length part) 255
 
 -- OOB 14 to 63: signature, version, the rest FF
-unfoldable pub imageTail : Kind → Table → List ℕ
-imageTail k t = wordBytes (kindWord k) ++ (t .version ∷ replicate 45 255)
+unfoldable pub imageTail : Kind → ℕ → List ℕ
+imageTail k v = wordBytes (kindWord k) ++ (v ∷ replicate 45 255)
 
--- page p of a copy of kind k; OOB 0 to 13 are FF
+-- a page of a copy: its part of the table, its kind and its version; OOB 0 to 13 are FF
+unfoldable pub pageImage : Kind → ℕ → List ℕ → List ℕ
+pageImage k v part = imageData part ++ (replicate 14 255 ++ imageTail k v)
+
+-- page p of a copy of kind k of a table
 unfoldable pub image : Kind → Table → ℕ → List ℕ
-image k t p = imageData t p ++ (replicate 14 255 ++ imageTail k t)
+image k t p = pageImage k (t .version) (chunk p (t .bitmap))
 
 -- the image of a plan's step: a step past the plan's end, or of an erase, is refusal 2
 pub data Imaged : Type 0 where
