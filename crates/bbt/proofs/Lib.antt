@@ -4,3 +4,12 @@ pub mod Raw
 pub mod Views
 pub mod Dependence
 pub mod Bitmaps
+pub mod LeftPages
+pub mod Blocks
+pub mod Forms
+pub mod Outcomes
+pub mod Placing
+pub mod Updating
+pub mod Planning
+pub mod Numbering
+pub mod PowerCuts

@@ -19,7 +19,7 @@ use Rattle.bbt.specs.Pages.{Page}
 use Rattle.bbt.specs.Pairs.{same}
 
 -- a number below suc n is n or below n
-below-suc : {i n : ℕ} → i < suc n → (i ≡ n) ⊎ (i < n)
+pub below-suc : {i n : ℕ} → i < suc n → (i ≡ n) ⊎ (i < n)
 below-suc {i} {n} h = go (eq-or-lt-of-le h)
   where
     go : (suc i ≡ suc n) ⊎ (suc i < suc n) → (i ≡ n) ⊎ (i < n)
@@ -53,6 +53,20 @@ pub all-cong : (n : ℕ) (f g : ℕ → Bool) → ((i : ℕ) → i < n → f i �
 unfolding all
 all-cong zero f g h = refl
 all-cong (suc n) f g h = ap₂ _&&_ (all-cong n f g (λ i l. h i (omega arith))) (h n (omega arith))
+
+-- one of two holds at every number below n: the first throughout, or the second somewhere
+pub all-or-some : (n : ℕ) (A B : ℕ → Type 0) → ((i : ℕ) → i < n → A i ⊎ B i) → ((i : ℕ) → i < n → A i) ⊎ ((i : ℕ) × (i < n) × B i)
+all-or-some zero A B h = inl (λ i l. absurd (omega arith))
+all-or-some (suc n) A B h = go (all-or-some n A B (λ i l. h i (omega arith))) (h n (omega arith))
+  where
+    go : ((i : ℕ) → i < n → A i) ⊎ ((i : ℕ) × (i < n) × B i) → A n ⊎ B n → ((i : ℕ) → i < suc n → A i) ⊎ ((i : ℕ) × (i < suc n) × B i)
+    go (inl a) (inl x) = inl (λ i l. put i (below-suc l))
+      where
+        put : (i : ℕ) → (i ≡ n) ⊎ (i < n) → A i
+        put i (inl e) = rw e x
+        put i (inr l) = a i l
+    go (inl a) (inr y) = inr (n, omega arith, y)
+    go (inr s) y = inr (s .0, omega (arith, s .1), s .2)
 
 -- ---- parts
 pub parts-next : (n : ℕ) (f : ℕ → Page) → parts (n + 1) f ≡ parts n f ++ pagePart (f n)
@@ -124,6 +138,30 @@ only-find (suc n) f b e = go (λ c. only-find n f b c) (also-only (f n) n (find 
           no-other = λ i l d. elim (below-suc l) [ inl x ↦ absurd (d (x ∙ h .2)) | inr x ↦ nowhere-find n f (h .1) i x ];
         }
 
+-- where none passes, none is found; where one passes and no other, it is
+pub find-none : (n : ℕ) (f : ℕ → Bool) → ((i : ℕ) → i < n → f i ≡ false) → find n f ≡ nowhere
+unfolding find also
+find-none zero f h = refl
+find-none (suc n) f h =
+    let a : f n ≡ false = h n (omega arith) in
+    let b : find n f ≡ nowhere = find-none n f (λ i l. h i (omega arith)) in
+    rw (a, b)
+
+pub find-only : (n : ℕ) (f : ℕ → Bool) (b : ℕ) → b < n → f b ≡ true → ((i : ℕ) → i < n → i ≢ b → f i ≡ false) → find n f ≡ only b
+unfolding find also
+find-only zero f b l e h = absurd (omega arith)
+find-only (suc n) f b l e h = go (λ q. find-only n f b q e (λ i k. h i (omega arith))) (below-suc l)
+  where
+    go : (b < n → find n f ≡ only b) → (b ≡ n) ⊎ (b < n) → find (suc n) f ≡ only b
+    go rec (inl q) =
+        let a : f n ≡ true = rw (← q) e in
+        let c : find n f ≡ nowhere = find-none n f (λ i k. h i (omega arith) (omega arith)) in
+        rw (a, c, q)
+    go rec (inr q) =
+        let a : f n ≡ false = h n (omega arith) (omega arith) in
+        let c : find n f ≡ only b = rec q in
+        rw (a, c)
+
 -- ---- highest
 pub highest-next : (n : ℕ) (f : ℕ → Bool) → highest (n + 1) f ≡ cond (f n) (some n) (highest n f)
 unfolding highest
@@ -150,6 +188,17 @@ highest-is (suc n) f b e = go (λ q. highest-is n f b q) (f n) refl
         let q : n ≡ b = cc in
         record { below = omega arith; passing = rw (← q) a }
     go rec false a = let r : Passes n f b = rec (sym (rw a) ∙ e) in record { below = omega (arith, r .below); passing = r .passing }
+
+-- where one passes, there is a highest
+pub highest-some : (n : ℕ) (f : ℕ → Bool) (b : ℕ) → b < n → f b ≡ true → (c : ℕ) × (highest n f ≡ some c)
+unfolding highest
+highest-some zero f b l e = absurd (omega arith)
+highest-some (suc n) f b l e = go (λ q. highest-some n f b q e) (f n) refl (below-suc l)
+  where
+    go : (b < n → (c : ℕ) × (highest n f ≡ some c)) → (x : Bool) → f n ≡ x → (b ≡ n) ⊎ (b < n) → (c : ℕ) × (highest (suc n) f ≡ some c)
+    go rec true a q = (n, rw a)
+    go rec false a (inl q) = absurd (true≢false (sym e ∙ (ap f q ∙ a)))
+    go rec false a (inr q) = let r = rec q in (r .0, rw a (r .1))
 
 -- ---- same
 pub same-refl : (l : List ℕ) → same l l ≡ true

@@ -63,20 +63,20 @@ module _ (chip : LargeChip) (R : View) where
 
 -- ---- one block
 module _ (P : ℕ) (some-page : 0 < P) (R S : View) (b : ℕ) (agree : (p : ℕ) → p < P → R b p ≡ S b p) where
-  good-agrees : (k : Kind) → good P R k b ≡ good P S k b
+  pub good-agrees : (k : Kind) → good P R k b ≡ good P S k b
   unfolding good
   good-agrees k =
       all-cong P (λ p. isPage k (pageVersion (R b 0)) (R b p)) (λ p. isPage k (pageVersion (S b 0)) (S b p))
       (λ p h. ap₂ (λ (x y : Page). isPage k (pageVersion x) y) (agree 0 some-page) (agree p h))
 
-  table-agrees : table P R b ≡ table P S b
+  pub table-agrees : table P R b ≡ table P S b
   unfolding table
   table-agrees =
       let v : pageVersion (R b 0) ≡ pageVersion (S b 0) = ap pageVersion (agree 0 some-page) in
       let l : parts P (R b) ≡ parts P (S b) = parts-cong P (R b) (S b) agree in
       λ i. record { version = v i; bitmap = l i }
 
-  bad-agrees : readsBad R b ≡ readsBad S b
+  pub bad-agrees : readsBad R b ≡ readsBad S b
   unfolding readsBad
   bad-agrees = ap isMarked (agree 0 some-page)
 

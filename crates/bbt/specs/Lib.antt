@@ -8,3 +8,6 @@ pub mod Images
 pub mod Lent
 pub mod Told
 pub mod Dependence
+pub mod Regions
+pub mod Histories
+pub mod PowerCuts

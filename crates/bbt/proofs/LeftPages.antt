@@ -1,0 +1,213 @@
+-- What is seen of a page that was left blank, complete, unreadable or as it was; and what is seen of a good copy: its table has N/4 bytes
+-- and its version is a byte. Of the laws under demand 3 these alone look at bytes.
+-- Assumes nothing.
+use mathlib.Core.Bool.{Bool, true, false, _&&_, cond, false≢true}
+use mathlib.Core.List.{List, [], _∷_, _++_}
+use mathlib.Core.Path.{_≡_, refl, sym, ap, _∙_, subst}
+use Prim.Native.Nat.{ℕ, zero, suc, _+_, _*_, _-_, _%_, _<_, _≤_, min}
+use native.Mathlib.Omega.{arith}
+use borrow.Author.Tests.{ne-eqb}
+use lib.Dec.{eqb, lit<}
+use lib.ListN.{length, take, drop, getD, replicate, length-append, length-take, length-drop, length-replicate}
+use lib.Seq.{take-take, take-at, drop-append-add, getD-drop}
+use Rattle.bits.specs.Bytes.{word}
+use Rattle.chip.specs.Large.{chipOf, bitmapBytes, pagesOf}
+use Rattle.chip.specs.declared.ChipAnswer.the-variants.{Chip}
+use Rattle.chip.specs.declared.LargeChip.{LargeChip}
+use Rattle.bbt.specs.declared.Kind.{Kind}
+use Rattle.bbt.specs.declared.Kind.the-variants.{Primary, Mirror, Neither}
+use Rattle.bbt.specs.Copies.{Table, pageVersion, pagePart, isPage, parts, good, table}
+use Rattle.bbt.specs.Images.{chunk, imageData, imageTail, pageImage, image}
+use Rattle.bbt.specs.Pages.{Page, unreadable, marked, reads, sameKind, kindOfWord, kindOf, versionOf, partLength, badPage, pageOf, seen}
+use Rattle.bbt.specs.Regions.{Region, view, statusAt, bytesAt, Blank, Complete, Unreadable, Kept}
+use Rattle.bbt.proofs.Raw.{Valid, chip-valid, page-byte, page-below, page-length}
+use Rattle.bbt.proofs.Searches.{all-at}
+
+-- ---- the chip
+pub record Judged (chip : LargeChip) : Type 0 where
+  pub is-chip : chipOf (chip .blocks) ≡ Chip chip
+  pub some-page : 0 < pagesOf chip
+  pub fours : chip .blocks % 4 ≡ 0
+  pub within : chip .region ≤ chip .blocks
+
+pub judge : (n : ℕ) (chip : LargeChip) → chipOf n ≡ Chip chip → Judged chip
+judge n chip e =
+    let v : Valid n chip = chip-valid n chip e in
+    record {
+      is-chip = ap chipOf (v .blocks) ∙ e;
+      some-page = v .some-page;
+      fours = ap (λ (m : ℕ). m % 4) (v .blocks) ∙ v .fours;
+      within = omega (arith, v .blocks, v .region, v .least);
+    }
+
+-- ---- the two kinds of a copy
+-- k is one of them, j the other
+pub data Twin : Kind → Kind → Type 0 where
+  primary-kind : Twin Primary Mirror
+  mirror-kind : Twin Mirror Primary
+
+pub twin-sym : {k j : Kind} → Twin k j → Twin j k
+twin-sym primary-kind = mirror-kind
+twin-sym mirror-kind = primary-kind
+
+-- ---- page images
+length-imageData : (part : List ℕ) → length part ≤ 2048 → length (imageData part) ≡ 2048
+unfolding imageData
+length-imageData part h = omega (arith, length-append part (replicate (2048 - length part) 255), length-replicate {A = ℕ} (2048 - length part) 255)
+
+chunk-length : (p : ℕ) (bitmap : List ℕ) → length (chunk p bitmap) ≤ 2048
+unfolding chunk
+chunk-length p bitmap = omega (arith, length-take 2048 (drop (2048 * p) bitmap))
+
+image-tail : (k : Kind) (t : Table) (p : ℕ) → drop 2062 (image k t p) ≡ imageTail k (t .version)
+unfolding image pageImage
+image-tail k t p =
+    let d : List ℕ = imageData (chunk p (t .bitmap)) in
+    let e : length d + 14 ≡ 2062 = omega (arith, length-imageData (chunk p (t .bitmap)) (chunk-length p (t .bitmap))) in
+    subst (λ (n : ℕ). drop n (d ++ (replicate 14 255 ++ imageTail k (t .version))) ≡ imageTail k (t .version)) e
+    (drop-append-add d (replicate 14 255 ++ imageTail k (t .version)) 14)
+
+image-data : (k : Kind) (t : Table) (p : ℕ) → take 2048 (image k t p) ≡ imageData (chunk p (t .bitmap))
+unfolding image pageImage
+image-data k t p =
+    take-at (imageData (chunk p (t .bitmap))) (replicate 14 255 ++ imageTail k (t .version)) 2048
+    (length-imageData (chunk p (t .bitmap)) (chunk-length p (t .bitmap)))
+
+image-part : (chip : LargeChip) (t : Table) (p : ℕ) → length (t .bitmap) ≡ bitmapBytes chip
+    → take (partLength chip p) (imageData (chunk p (t .bitmap))) ≡ chunk p (t .bitmap)
+unfolding imageData chunk
+image-part chip t p h =
+    let c : List ℕ = take 2048 (drop (2048 * p) (t .bitmap)) in
+    take-at c (replicate (2048 - length c) 255) (partLength chip p)
+    (omega (arith, length-take 2048 (drop (2048 * p) (t .bitmap)), length-drop (2048 * p) (t .bitmap)))
+
+-- signature and version in OOB 14-18
+tail-kind : {k j : Kind} (v : ℕ) → Twin k j
+    → kindOfWord (word (getD (imageTail k v) 0 0) (getD (imageTail k v) 1 0) (getD (imageTail k v) 2 0) (getD (imageTail k v) 3 0)) ≡ k
+unfolding imageTail kindOfWord
+tail-kind v primary-kind = refl
+tail-kind v mirror-kind = refl
+
+tail-version : {k j : Kind} (v : ℕ) → Twin k j → getD (imageTail k v) 4 0 ≡ v
+unfolding imageTail
+tail-version v primary-kind = refl
+tail-version v mirror-kind = refl
+
+signed : {k j : Kind} → Twin k j → sameKind k Neither ≡ false
+unfolding sameKind
+signed primary-kind = refl
+signed mirror-kind = refl
+
+-- ---- a page of a region
+-- a page that shows a signature, or FF as its mark, or is unreadable, does not mark its block as bad
+signed-fit : (p s : ℕ) (l : List ℕ) → sameKind (kindOf l) Neither ≡ false → badPage p s l ≡ false
+unfolding badPage
+signed-fit p s l e = go (eqb p 0) (eqb s 0)
+  where
+    go : (x y : Bool) → (x && (y && (sameKind (kindOf l) Neither && eqb (getD l 2048 0) 0))) ≡ false
+    go true true = rw e
+    go true false = refl
+    go false y = refl
+
+module _ {chip : LargeChip} where
+  -- page p of a copy of t, of kind k, stands complete in block b
+  abbrev pub Stands : Region chip → ℕ → ℕ → Kind → Table → Type 0
+  Stands r b p k t = Complete r b p (image k t p)
+
+  pub kept-seen : (r s : Region chip) (b p : ℕ) → Kept r s b p → view s b p ≡ view r b p
+  unfolding seen
+  kept-seen r s b p h =
+      let x = h .same-status in
+      let y = h .same-bytes in
+      cc
+
+  pub unreadable-seen : (r : Region chip) (b p : ℕ) → Unreadable r b p → view r b p ≡ unreadable
+  unfolding seen pageOf badPage
+  unreadable-seen r b p h = rw (h .fails) (go (eqb p 0))
+    where
+      go : (x : Bool) → cond (x && false) marked unreadable ≡ unreadable
+      go true = refl
+      go false = refl
+
+  pub blank-seen : (r : Region chip) (b p : ℕ) → Blank r b p → (d : List ℕ) × (view r b p ≡ reads Neither 255 d)
+  unfolding seen pageOf badPage kindOf kindOfWord sameKind
+  blank-seen r b p h =
+      let d : List ℕ = take (partLength chip p) (replicate 2112 255) in
+      (d, rw (h .well, h .all-ff) (go (eqb p 0)))
+    where
+      go : (x : Bool) → cond (x && false) marked (reads Neither 255 (take (partLength chip p) (replicate 2112 255)))
+          ≡ reads Neither 255 (take (partLength chip p) (replicate 2112 255))
+      go true = refl
+      go false = refl
+
+  pub stands-seen : (r : Region chip) (b p : ℕ) (k j : Kind) (t : Table) → Twin k j → length (t .bitmap) ≡ bitmapBytes chip
+      → Stands r b p k t → view r b p ≡ reads k (t .version) (chunk p (t .bitmap))
+  unfolding seen pageOf kindOf
+  stands-seen r b p k j t o len h =
+      let l : List ℕ = bytesAt r b p in
+      let tail : drop 2062 l ≡ imageTail k (t .version) = h .oob-as-asked ∙ image-tail k t p in
+      let at : (i : ℕ) → getD l (2062 + i) 0 ≡ getD (imageTail k (t .version)) i 0 =
+      λ i. sym (getD-drop 2062 l i 0) ∙ ap (λ (m : List ℕ). getD m i 0) tail in
+      let e : kindOf l ≡ k = rw (at 0, at 1, at 2, at 3) (tail-kind (t .version) o) in
+      let v : versionOf l ≡ t .version = at 4 ∙ tail-version (t .version) o in
+      let d : take (partLength chip p) l ≡ chunk p (t .bitmap) =
+      sym (take-take (partLength chip p) 2048 l (omega arith)) ∙ rw (h .data-as-asked, image-data k t p) (image-part chip t p len) in
+      let f : badPage p 0 l ≡ false = signed-fit p 0 l (rw e (signed o)) in
+      rw (h .well, f, e, v, d)
+
+  -- ---- the table of a good copy
+  length-part : (r : Region chip) (b p v : ℕ) (k : Kind) → b < chip .region → p < pagesOf chip → isPage k v (view r b p) ≡ true
+      → length (pagePart (view r b p)) ≡ partLength chip p
+  unfolding seen pageOf isPage pagePart
+  length-part r b p v k hb hp = go (badPage p (statusAt r b p) (bytesAt r b p)) (eqb (statusAt r b p) 0)
+    where
+      l : List ℕ
+      l = bytesAt r b p
+
+      whole : length l ≡ 2112
+      whole = page-length chip (r .image) (b * pagesOf chip + p) (r .image-length) (page-below chip b p hb hp)
+
+      read : Page
+      read = reads (kindOf l) (versionOf l) (take (partLength chip p) l)
+
+      go : (y x : Bool) → isPage k v (cond y marked (cond x read unreadable)) ≡ true → length (pagePart (cond y marked (cond x read unreadable))) ≡ partLength chip p
+      go true x e = absurd (false≢true e)
+      go false true e = omega (arith, length-take (partLength chip p) l, whole)
+      go false false e = absurd (false≢true e)
+
+  length-parts : (r : Region chip) (b v : ℕ) (k : Kind) → b < chip .region → (n : ℕ) → n ≤ pagesOf chip
+      → ((p : ℕ) → p < pagesOf chip → isPage k v (view r b p) ≡ true) → length (parts n (view r b)) ≡ min (2048 * n) (bitmapBytes chip)
+  unfolding parts
+  length-parts r b v k hb zero hn h = omega arith
+  length-parts r b v k hb (suc n) hn h =
+      omega (
+        arith,
+        length-append (parts n (view r b)) (pagePart (view r b n)),
+        length-parts r b v k hb n (omega arith) h,
+        length-part r b n v k hb (omega arith) (h n (omega arith)),
+      )
+
+  pub length-table : (r : Region chip) (b : ℕ) (k : Kind) → b < chip .region → good (pagesOf chip) (view r) k b ≡ true
+      → length (table (pagesOf chip) (view r) b .bitmap) ≡ bitmapBytes chip
+  unfolding good table
+  length-table r b k hb e =
+      omega (
+        arith,
+        length-parts r b (pageVersion (view r b 0)) k hb (pagesOf chip) (omega arith)
+            (λ p l. all-at (pagesOf chip) (λ p. isPage k (pageVersion (view r b 0)) (view r b p)) e p l),
+      )
+
+  pub version-byte : (r : Region chip) (b p : ℕ) → pageVersion (view r b p) < 256
+  unfolding seen pageOf pageVersion
+  version-byte r b p = go (badPage p (statusAt r b p) (bytesAt r b p)) (eqb (statusAt r b p) 0)
+    where
+      l : List ℕ
+      l = bytesAt r b p
+
+      at : versionOf l < 256
+      at = rw (page-byte (r .image) (b * pagesOf chip + p) 2066 (lit< tt)) (r .image-bytes ((b * pagesOf chip + p) * 2112 + 2066))
+
+      go : (y x : Bool) → pageVersion (cond y marked (cond x (reads (kindOf l) (versionOf l) (take (partLength chip p) l)) unreadable)) < 256
+      go true x = lit< tt
+      go false true = at
+      go false false = lit< tt
