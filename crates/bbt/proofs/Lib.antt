@@ -13,3 +13,4 @@ pub mod Updating
 pub mod Planning
 pub mod Numbering
 pub mod PowerCuts
+pub mod CarriedOut

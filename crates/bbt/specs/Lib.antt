@@ -11,3 +11,4 @@ pub mod Dependence
 pub mod Regions
 pub mod Histories
 pub mod PowerCuts
+pub mod CarriedOut
