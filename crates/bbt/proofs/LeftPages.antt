@@ -51,11 +51,11 @@ twin-sym primary-kind = mirror-kind
 twin-sym mirror-kind = primary-kind
 
 -- ---- page images
-length-imageData : (part : List ℕ) → length part ≤ 2048 → length (imageData part) ≡ 2048
+pub length-imageData : (part : List ℕ) → length part ≤ 2048 → length (imageData part) ≡ 2048
 unfolding imageData
 length-imageData part h = omega (arith, length-append part (replicate (2048 - length part) 255), length-replicate {A = ℕ} (2048 - length part) 255)
 
-chunk-length : (p : ℕ) (bitmap : List ℕ) → length (chunk p bitmap) ≤ 2048
+pub chunk-length : (p : ℕ) (bitmap : List ℕ) → length (chunk p bitmap) ≤ 2048
 unfolding chunk
 chunk-length p bitmap = omega (arith, length-take 2048 (drop (2048 * p) bitmap))
 

@@ -14,3 +14,6 @@ pub mod Planning
 pub mod Numbering
 pub mod PowerCuts
 pub mod CarriedOut
+pub mod Small
+pub mod Putting
+pub mod Possible

@@ -309,7 +309,7 @@ module _ {chip : LargeChip} (ok : Judged chip) where
           subst (λ (z : Plan). Update chip o (updated o w) p m z) i
           (subst (λ (t : Table). Update chip o t p m (double p m n)) k (news z))
 
-  update-reads : (r : Region chip) (w : List ℕ) (q : Plan) → Asked r (for-update w) q → (p : ℕ) × (m : ℕ) × (o : Table) × (reading chip (view r) ≡ holds p m o)
+  pub update-reads : (r : Region chip) (w : List ℕ) (q : Plan) → Asked r (for-update w) q → (p : ℕ) × (m : ℕ) × (o : Table) × (reading chip (view r) ≡ holds p m o)
   unfolding firstPlan update updateFrom
   update-reads r w q h = go (reading chip (view r)) refl (h .first)
     where

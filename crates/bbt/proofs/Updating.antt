@@ -38,6 +38,18 @@ entry-kept : (a b : ℕ) → a ≢ 3 → updatedEntry a b ≡ a
 unfolding updatedEntry
 entry-kept a b h = rw (ne-eqb a 3 h)
 
+-- a byte is a byte
+pub updated-small : (o w : ℕ) → updatedByte o w < 256
+unfolding updatedByte
+updated-small o w =
+    omega (
+      arith,
+      entry-small (o % 4) (w % 4) (omega arith) (omega arith),
+      entry-small (o / 4 % 4) (w / 4 % 4) (omega arith) (omega arith),
+      entry-small (o / 16 % 4) (w / 16 % 4) (omega arith) (omega arith),
+      entry-small (o / 64 % 4) (w / 64 % 4) (omega arith) (omega arith),
+    )
+
 -- entry j of a byte
 byte-kept : (j o w : ℕ) → j < 4 → o / 4 ^ j % 4 ≢ 3 → updatedByte o w / 4 ^ j % 4 ≡ o / 4 ^ j % 4
 unfolding updatedByte

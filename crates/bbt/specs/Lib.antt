@@ -12,3 +12,4 @@ pub mod Regions
 pub mod Histories
 pub mod PowerCuts
 pub mod CarriedOut
+pub mod Possible

@@ -1,0 +1,73 @@
+-- The histories of demand 3 leave nothing out: at every moment the next step can be done, and can be cut with every outcome that document 01
+-- allows, with any bytes where it allows any; the last update can always be closed; and an accepted update was planned from a settled pair.
+use mathlib.Core.List.{List, _∷_}
+use mathlib.Core.Path.{_≡_}
+use Prim.Native.Nat.{ℕ, suc, _<_}
+use lib.ListN.{length, take, drop, getD}
+use Rattle.chip.specs.Large.{chipOf, pagesOf}
+use Rattle.chip.specs.declared.ChipAnswer.the-variants.{Chip}
+use Rattle.chip.specs.declared.LargeChip.{LargeChip}
+use Rattle.bbt.specs.Copies.{Table}
+use Rattle.bbt.specs.Histories.{Written, Last, Closes, Snapshot, snapshot, answer, asked, holding, empty, World, world, Event, History}
+use Rattle.bbt.specs.Images.{Imaged}
+use Rattle.bbt.specs.Plans.{Step, erase, write, Plan, plan, Call, for-update, reading, holds}
+use Rattle.bbt.specs.PowerCuts.{Start}
+use Rattle.bbt.specs.Regions.{Region, view, bytesAt, Blank, Unreadable, Kept}
+
+-- any n bytes
+pub record Bytes (n : ℕ) (l : List ℕ) : Type 0 where
+  pub as-many : length l ≡ n
+  pub small : (i : ℕ) → getD l i 0 < 256
+
+-- what becomes of a page: it is as it was, blank, complete with these bytes in OOB 0-13, or unreadable with these bytes
+pub data Fate : Type 0 where
+  kept : Fate
+  blanked : Fate
+  completed : List ℕ → Fate
+  spoilt : List ℕ → Fate
+
+-- what a cut in a step may make of a page
+abbrev pub CutAllows : Step → Fate → Type 0
+CutAllows (erase b) kept = Unit {0}
+CutAllows (erase b) blanked = Unit {0}
+CutAllows (erase b) (completed x) = ⊥
+CutAllows (erase b) (spoilt l) = Bytes 2112 l
+CutAllows (write b p k t) kept = ⊥
+CutAllows (write b p k t) blanked = Unit {0}
+CutAllows (write b p k t) (completed x) = Bytes 14 x
+CutAllows (write b p k t) (spoilt l) = Bytes 2112 l
+
+-- what a step, done, makes of its pages
+abbrev pub DoneAllows : Step → Fate → Type 0
+DoneAllows (erase b) f = f ≡ blanked
+DoneAllows (write b p k t) f = (x : List ℕ) × Bytes 14 x × (f ≡ completed x)
+
+module _ {chip : LargeChip} where
+  -- page p of block b met its fate, from region r to region s
+  abbrev pub Met : Imaged → Fate → Region chip → Region chip → ℕ → ℕ → Type 0
+  Met x kept r s b p = Kept r s b p
+  Met x blanked r s b p = Blank s b p
+  Met x (completed oob) r s b p = Written s b p x × (take 14 (drop 2048 (bytesAt s b p)) ≡ oob)
+  Met x (spoilt l) r s b p = Unreadable s b p × (bytesAt s b p ≡ l)
+
+  -- the pages of the step did
+  abbrev pub AllMet : Imaged → (ℕ → Fate) → Step → Region chip → Region chip → Type 0
+  AllMet x fate (erase b) r s = (p : ℕ) → p < pagesOf chip → Met x (fate p) r s b p
+  AllMet x fate (write b p k t) r s = Met x (fate p) r s b p
+
+  -- the next step e, number i of the plan in hand
+  pub record CanHappen (r : Region chip) (l : Last) (c : Call) (a : Snapshot chip) (i : ℕ) (e : Step) (es : List Step) : Type 0 where
+    pub done : (fate : ℕ → Fate) → ((p : ℕ) → DoneAllows e (fate p))
+        → (s : Region chip) × (l′ : Last) × AllMet (asked c a i) fate e r s × Event r l (holding c a i (e ∷ es)) (world s (holding c a (suc i) es) l′)
+    pub cut : (fate : ℕ → Fate) → ((p : ℕ) → CutAllows e (fate p))
+        → (s : Region chip) × (l′ : Last) × AllMet (asked c a i) fate e r s × Event r l (holding c a i (e ∷ es)) (world s empty l′)
+
+pub record Possible (chip : LargeChip) : Type 0 where
+  pub steps : {w : World chip} {r : Region chip} {l : Last} {c : Call} {a : Snapshot chip} {i : ℕ} {e : Step} {es : List Step} → Start w
+      → History w (world r (holding c a i (e ∷ es)) l) → CanHappen r l c a i e es
+  pub closes : (r : Region chip) (l : Last) → (l′ : Last) × Closes r l l′
+  pub from-settled : (r : Region chip) (wanted : List ℕ) (q : Plan) → answer (for-update wanted) (snapshot r) ≡ plan q
+      → (p : ℕ) × (m : ℕ) × (o : Table) × (reading chip (view r) ≡ holds p m o)
+
+abbrev pub NothingLeftOut : Type 0
+NothingLeftOut = (n : ℕ) (chip : LargeChip) → chipOf n ≡ Chip chip → Possible chip
