@@ -98,8 +98,11 @@ member x [] = false
 member x (y ∷ ys) = eqb x y || member x ys
 
 -- the target: the highest block that is not among those to avoid nor readable as bad
+abbrev pub isFree : View → List ℕ → ℕ → Bool
+isFree R avoid b = not (member b avoid) && not (readsBad R b)
+
 unfoldable pub target : LargeChip → View → List ℕ → Option ℕ
-target chip R avoid = highest (chip .region) (λ b. not (member b avoid) && not (readsBad R b))
+target chip R avoid = highest (chip .region) (isFree R avoid)
 
 -- the kind that is missing beside a good one
 abbrev pub otherKind : Kind → Kind
