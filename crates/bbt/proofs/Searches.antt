@@ -55,10 +55,6 @@ all-cong zero f g h = refl
 all-cong (suc n) f g h = ap₂ _&&_ (all-cong n f g (λ i l. h i (omega arith))) (h n (omega arith))
 
 -- ---- parts
-pub parts-next : (n : ℕ) (f : ℕ → Page) → parts (n + 1) f ≡ parts n f ++ pagePart (f n)
-unfolding parts
-parts-next n f = rw add-one
-
 pub parts-cong : (n : ℕ) (f g : ℕ → Page) → ((i : ℕ) → i < n → f i ≡ g i) → parts n f ≡ parts n g
 unfolding parts
 parts-cong zero f g h = refl
