@@ -52,9 +52,8 @@
  *
  *   A plan is a list of steps for the driver to carry out in their order, each to its end before the next
  *   begins. A step erases a block, or writes one page of a copy into an erased block: data bytes and OOB as
- *   above, with FF in OOB 0-13. A plan's version is the one that its pages carry. An update has its new
- *   primary complete before it touches the mirror, so whenever power fails, a recovery finds the old table
- *   or the new one whole. A driver reads its table like this:
+ *   above, with FF in OOB 0-13. A plan's version is the one that its pages carry. An update's steps for the
+ *   primary all come before those for the mirror. A driver reads its table like this:
  *
  *	read the region; ream_table_read();
  *	if that is refused with REAM_NOT_SETTLED: ream_recovery_plan(), carry out its steps, start again

@@ -3,19 +3,19 @@
 -- as a page of a copy either way.
 -- Assumes nothing.
 use mathlib.Core.Bool.{Bool, true, false, _&&_, true≢false, false≢true}
-use mathlib.Core.List.{List, [], _++_}
+use mathlib.Core.List.{List, _++_}
 use mathlib.Core.Path.{_≡_, refl, sym, ap, ap₂, _∙_}
-use Prim.Native.Nat.{ℕ, zero, suc, _+_, _*_, _%_, _<_, _≤_, min}
+use Prim.Native.Nat.{ℕ, zero, suc, _+_, _*_, _%_, _<_, _≤_}
 use native.Mathlib.Nat.{add-zero, mul-le-mul-right}
 use native.Mathlib.Numerals.{add-one}
 use native.Mathlib.Omega.{arith}
 use borrow.Author.Tests.{eqb-true, eq-eqb, leb-true}
 use lib.Dec.{eqb, leb}
-use lib.ListN.{length, take, drop, getD, length-append, length-take, length-drop}
+use lib.ListN.{length, take, drop, getD, length-take, length-drop}
 use lib.Seq.{getD-take, getD-drop, take-take}
 use Rattle.bits.specs.Bytes.{word}
 use Rattle.bits.proofs.Both.{both-left, both-right}
-use Rattle.chip.specs.Large.{isBlocks, chipOf, bitmapBytes, pagesOf, regionPages, regionBytes}
+use Rattle.chip.specs.Large.{isBlocks, chipOf, pagesOf, regionPages, regionBytes}
 use Rattle.chip.specs.declared.ChipAnswer.the-variants.{Chip, Refused}
 use Rattle.chip.specs.declared.LargeChip.{LargeChip}
 use Rattle.chip.specs.declared.Refusal.the-variants.{Range}
@@ -155,21 +155,6 @@ pub stored-parts-next : (chip : LargeChip) (image : List ℕ) (b n : ℕ)
     → storedParts chip image b (n + 1) ≡ storedParts chip image b n ++ take (partLength chip n) (pageBytes image (b * pagesOf chip + n))
 unfolding storedParts
 stored-parts-next chip image b n = rw add-one
-
--- they are n pages' bytes of the bitmap, or all of it
-raw-parts-length : (chip : LargeChip) (image : List ℕ) (b n : ℕ) → length image ≡ regionBytes chip → b < chip .region → n ≤ pagesOf chip
-    → length (storedParts chip image b n) ≡ min (2048 * n) (bitmapBytes chip)
-unfolding storedParts
-raw-parts-length chip image b zero e hb h = omega arith
-raw-parts-length chip image b (suc n) e hb h =
-    let i : ℕ = b * pagesOf chip + n in
-    let ih = raw-parts-length chip image b n e hb (omega arith) in
-    let all-there = page-length chip image i e (page-below chip b n hb (omega arith)) in
-    simp (length-append, length-take) (omega (arith, ih, all-there))
-
-pub stored-length : (chip : LargeChip) (image : List ℕ) (b : ℕ) → length image ≡ regionBytes chip → b < chip .region
-    → length (storedParts chip image b (pagesOf chip)) ≡ bitmapBytes chip
-stored-length chip image b e hb = raw-parts-length chip image b (pagesOf chip) e hb (omega arith) ∙ omega arith
 
 module _ (chip : LargeChip) (image status : List ℕ) (b : ℕ) where
   -- a block's first page

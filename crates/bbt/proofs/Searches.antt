@@ -69,10 +69,6 @@ all-or-some (suc n) A B h = go (all-or-some n A B (λ i l. h i (omega arith))) (
     go (inr s) y = inr (s .0, omega (arith, s .1), s .2)
 
 -- ---- parts
-pub parts-next : (n : ℕ) (f : ℕ → Page) → parts (n + 1) f ≡ parts n f ++ pagePart (f n)
-unfolding parts
-parts-next n f = rw add-one
-
 pub parts-cong : (n : ℕ) (f g : ℕ → Page) → ((i : ℕ) → i < n → f i ≡ g i) → parts n f ≡ parts n g
 unfolding parts
 parts-cong zero f g h = refl

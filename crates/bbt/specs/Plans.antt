@@ -1,5 +1,5 @@
 -- Document 01, "Update" and "Recovery": what reading a pair gives, and the plans, case by case. Blocks are region blocks here.
-use mathlib.Core.Bool.{Bool, true, false, not, cond, _&&_, _||_}
+use mathlib.Core.Bool.{Bool, false, not, cond, _&&_, _||_}
 use mathlib.Core.List.{List, [], _∷_}
 use mathlib.Core.Option.{Option, none, some}
 use Prim.Native.Nat.{ℕ, zero, suc, _+_, _%_}
@@ -98,8 +98,11 @@ member x [] = false
 member x (y ∷ ys) = eqb x y || member x ys
 
 -- the target: the highest block that is not among those to avoid nor readable as bad
+abbrev pub isFree : View → List ℕ → ℕ → Bool
+isFree R avoid b = not (member b avoid) && not (readsBad R b)
+
 unfoldable pub target : LargeChip → View → List ℕ → Option ℕ
-target chip R avoid = highest (chip .region) (λ b. not (member b avoid) && not (readsBad R b))
+target chip R avoid = highest (chip .region) (isFree R avoid)
 
 -- the kind that is missing beside a good one
 abbrev pub otherKind : Kind → Kind

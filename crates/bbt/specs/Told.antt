@@ -1,5 +1,5 @@
 -- Plans and steps as the library tells them: with chip blocks, N − 4 to N − 1, and without the table.
-use mathlib.Core.Bool.{Bool, cond}
+use mathlib.Core.Bool.{cond}
 use mathlib.Core.List.{List, [], _∷_, map}
 use mathlib.Core.Path.{_≡_}
 use Prim.Native.Nat.{ℕ, zero, suc, _+_, _-_}

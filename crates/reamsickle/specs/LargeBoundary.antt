@@ -61,16 +61,16 @@ abbrev pub planCodeBy : PlanAnswer → ℕ
 planCodeBy (Planned q) = 256 * q .version + 65536 * length (toldSteps q)
 planCodeBy (NotPlanned r) = refusalCode r
 
-abbrev pub stepsBy : PlanAnswer → List ℕ → List ℕ
-stepsBy (Planned q) room = stepsPut (toldSteps q) room
-stepsBy (NotPlanned r) room = room
+abbrev pub stepsPutBy : PlanAnswer → List ℕ → List ℕ
+stepsPutBy (Planned q) room = stepsPut (toldSteps q) room
+stepsPutBy (NotPlanned r) room = room
 
 -- N (2), then room for sixteen steps (1), then the answer
 unfoldable pub planCode : ℕ → PlanAnswer → List ℕ → ℕ
 planCode n a room = onChip refusalCode (chipOf n) (λ chip. cond (eqb (length room) 64) (planCodeBy a) (refusalCode Length))
 
 unfoldable pub stepsAfter : ℕ → PlanAnswer → List ℕ → List ℕ
-stepsAfter n a room = onChip (λ r. room) (chipOf n) (λ chip. cond (eqb (length room) 64) (stepsBy a room) room)
+stepsAfter n a room = onChip (λ r. room) (chipOf n) (λ chip. cond (eqb (length room) 64) (stepsPutBy a room) room)
 
 -- how many bytes the steps of an answer take
 abbrev pub roomOf : PlanAnswer → ℕ

@@ -126,12 +126,6 @@ module _ {n : ℕ} {chip : LargeChip} {beside : Beside} {image status : List ℕ
       eqb-true (length image) (regionBytes chip)
       (both-left (eqb (length image) (regionBytes chip)) (eqb (length status) (regionPages chip)) (k .region-right))
 
-  pub known-status : length status ≡ regionPages chip
-  unfolding regionLent
-  known-status =
-      eqb-true (length status) (regionPages chip)
-      (both-right (eqb (length image) (regionBytes chip)) (eqb (length status) (regionPages chip)) (k .region-right))
-
   -- each block of the case holds a good copy
   pub known-copies : Copies chip (seen chip image status) (untold c)
   known-copies = subst (λ (x : Case). Copies chip (seen chip image status) x) (k .the-case) (case-copies chip (seen chip image status))

@@ -7,7 +7,7 @@ ghost use Rattle.bbt.specs.Copies.{good, readsBad};
 ghost use Rattle.bbt.specs.Lent.{statusesRight};
 ghost use Rattle.bbt.specs.Pages.{kindOf, versionOf, pageBytes, pageStatus, seen, partLength};
 ghost use Rattle.bbt.specs.Pairs.{same, copies, compared, pairCase};
-ghost use Rattle.bbt.specs.Plans.{target};
+ghost use Rattle.bbt.specs.Plans.{isFree, target};
 ghost use Rattle.bbt.specs.Stored.{storedParts, storedTable};
 ghost use Rattle.bbt.specs.Told.{toldCase};
 ghost use Rattle.chip.specs.Large.{bitmapBytes, pagesOf};
@@ -15,7 +15,7 @@ ghost use Rattle.region.specs.Cases.{Fits, isSigned, pageMatches, locate
 ghost use Rattle.region.specs.Oob.{OobOf, oobAnswer, oobOn};
 ghost use Rattle.region.specs.Parts.{partOf};
 ghost use Rattle.region.specs.Tables.{tableAfter, tableAnswer};
-ghost use Rattle.region.specs.Targets.{isFree, toldTarget, lentTarget};
+ghost use Rattle.region.specs.Targets.{toldTarget, lentTarget};
 use bbt::Kind;
 use bbt::PairCase;
 use chip::ChipAnswer;
@@ -59,7 +59,7 @@ fn good_copy(chip: LargeChip, image: &[u8], status: &[u8], kind: Kind, b: u8) ->
 {
     let pages = chip.pages();
     let first = (b as usize) * pages;
-    let version = image[first * 2112 + 2066];
+    let version = image[first * LargeChip::PAGE_WITH_OOB + 2066];
     let mut p: usize = 0;
     while p < pages {
         if !page_is(image, status, first + p, kind, version) {
@@ -107,12 +107,16 @@ fn part_length(chip: LargeChip, p: u8) -> usize
     ensures { λ r. ⌜ (r ≡ partLength chip p) × (r ≤ 2048) ⌝ }
 {
     let bytes = chip.bitmap_bytes();
-    let done = 2048 * (p as usize);
+    let done = LargeChip::PAGE * (p as usize);
     if bytes <= done {
         return 0;
     }
     let rest = bytes - done;
-    if rest < 2048 { rest } else { 2048 }
+    if rest < LargeChip::PAGE {
+        rest
+    } else {
+        LargeChip::PAGE
+    }
 }
 
 // The part of a bitmap that page p of region block b holds, as a part of the image; empty where the image is too short.

@@ -1,7 +1,6 @@
 -- `keeps_table` meets its contract: the parts before page p are kept or not, as `kept` says.
 -- Assumes nothing.
-use mathlib.Core.Bool.{Bool, _&&_, and-true, and-false}
-use mathlib.Core.List.{List}
+use mathlib.Core.Bool.{_&&_, and-true, and-false}
 use mathlib.Core.Logic.{⊎-elim}
 use mathlib.Core.Path.{_≡_, refl, _∙_, ap, ap₂, sym}
 use Prim.Native.Nat.{ℕ, _+_, _-_, _<_, _≤_}

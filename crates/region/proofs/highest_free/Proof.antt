@@ -9,9 +9,9 @@ use Prim.Native.Nat.{ℕ, _≤_, _-_}
 use native.Mathlib.Omega.{arith}
 use Rattle.bbt.specs.Copies.{highest}
 use Rattle.bbt.specs.Pages.{seen}
-use Rattle.bbt.specs.Plans.{target}
+use Rattle.bbt.specs.Plans.{isFree, target}
 use Rattle.bbt.proofs.Searches.{highest-next}
-use Rattle.region.specs.Targets.{isFree, toldTarget}
+use Rattle.region.specs.Targets.{toldTarget}
 use Rattle.region.proofs.highest_free.Statement.{statement}
 use Rattle.region.proofs.highest_free.Tie as tie
 
