@@ -17,3 +17,4 @@ pub mod CarriedOut
 pub mod Small
 pub mod Putting
 pub mod Possible
+pub mod Example

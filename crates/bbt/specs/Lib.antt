@@ -13,3 +13,4 @@ pub mod Histories
 pub mod PowerCuts
 pub mod CarriedOut
 pub mod Possible
+pub mod Example
