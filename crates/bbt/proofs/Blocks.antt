@@ -1,7 +1,7 @@
 -- Laws of a block, for any number of pages: which pages spoil a copy, what a good copy is not, and that a block whose pages were all
 -- written is a good copy of the table.
 -- Assumes nothing.
-use mathlib.Core.Bool.{true, false, _&&_, false≢true}
+use mathlib.Core.Bool.{true, false, false≢true}
 use mathlib.Core.List.{List, _++_}
 use mathlib.Core.Path.{_≡_, refl, ap, _∙_}
 use Prim.Native.Nat.{ℕ, zero, suc, _+_, _*_, _<_, _≤_}

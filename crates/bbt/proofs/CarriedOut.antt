@@ -1,6 +1,6 @@
 -- A plan carried out uncut: what its steps take is there (`Ready`), so each copy is written whole, one after the other, and the pair is settled.
 -- Assumes nothing.
-use mathlib.Core.List.{List, [], _∷_}
+use mathlib.Core.List.{List, []}
 use mathlib.Core.Logic.{_≢_}
 use mathlib.Core.Path.{_≡_, refl, sym, ap, _∙_, subst}
 use Prim.Native.Nat.{ℕ, zero, suc, _+_}
@@ -10,10 +10,10 @@ use Rattle.chip.specs.Large.{bitmapBytes, pagesOf}
 use Rattle.chip.specs.declared.LargeChip.{LargeChip}
 use Rattle.bbt.specs.declared.Kind.{Kind}
 use Rattle.bbt.specs.declared.Kind.the-variants.{Primary, Mirror}
-use Rattle.bbt.specs.CarriedOut.{stepCount, Carried, all-done, one-done, ReadsAs, Ends, EndsSettled}
+use Rattle.bbt.specs.CarriedOut.{stepCount, Carried, all-done, one-done, ReadsAs, EndsSettled}
 use Rattle.bbt.specs.Copies.{Table}
-use Rattle.bbt.specs.Histories.{Snapshot, snapshot, answer, asked}
-use Rattle.bbt.specs.Plans.{Step, Plan, idle, single, double, writes, copySteps, stepsOf, plan, reading, holds, updated, Call, for-update}
+use Rattle.bbt.specs.Histories.{Snapshot, snapshot, asked}
+use Rattle.bbt.specs.Plans.{Step, Plan, idle, single, double, writes, copySteps, stepsOf, reading, holds, Call, for-update}
 use Rattle.bbt.specs.Regions.{Region, view}
 use Rattle.bbt.proofs.Forms.{Sole, sole-clear, sole-in, sole-fit, sole-length, sole-apart}
 use Rattle.bbt.proofs.LeftPages.{Judged, judge, Twin, primary-kind, mirror-kind}

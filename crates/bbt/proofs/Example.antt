@@ -1,14 +1,14 @@
 -- The two histories, step by step: plans, page images and readings are computed from the 8,448 bytes of each region.
 -- Assumes nothing.
-use mathlib.Core.Bool.{Bool, true, false, _&&_, _||_, true≢false}
+use mathlib.Core.Bool.{Bool, true, false, _&&_, _||_}
 use mathlib.Core.List.{List, [], _∷_, _++_}
-use mathlib.Core.Logic.{_⊎_, inl, inr, _≢_}
-use mathlib.Core.Path.{_≡_, refl, sym, _∙_}
+use mathlib.Core.Logic.{inl, inr, _≢_}
+use mathlib.Core.Path.{_≡_, refl, _∙_}
 use Prim.Native.Nat.{ℕ, zero, suc, _<_}
 use native.Mathlib.Omega.{arith}
 use borrow.Author.Tests.{eqb-true, ne-eqb}
 use lib.Dec.{eqb, lit<}
-use lib.ListN.{length, getD, replicate, length-append, length-replicate}
+use lib.ListN.{getD, replicate, length-append, length-replicate}
 use Rattle.bits.proofs.Both.{both-left, both-right}
 use Rattle.chip.specs.Large.{chipOf, isBlocks}
 use Rattle.bbt.specs.declared.Kind.{Kind}
@@ -18,7 +18,7 @@ use Rattle.bbt.specs.Entries.{updatedByte, updatedBytes, updatedEntry}
 use Rattle.bbt.specs.Example.{chip8, oldTable, newTable, RunsTo, Examples}
 use Rattle.bbt.specs.Histories.{OthersKept, Written, Last, one-table, NewPrimary, Snapshot, pending, closed, begun, as-closed, was-complete, was-not, snapshot, answer, asked, empty, holding, world, update-planned, recovery-planned, step-done, step-cut, History, start, next}
 use Rattle.bbt.specs.Images.{page-image, chunk, imageAt, imageData, imageTail, pageImage, image, planImage}
-use Rattle.bbt.specs.Lent.{imaged, lentPlan, planned, regionLent, statusesRight}
+use Rattle.bbt.specs.Lent.{lentPlan, planned, regionLent, statusesRight}
 use Rattle.bbt.specs.Pages.{badPage, kindOf, kindOfWord, pageBytes, pageOf, sameKind, seen}
 use Rattle.bbt.specs.Pairs.{bothCase, caseOf, compared, difference, pairCase, same, signedOf}
 use Rattle.bbt.specs.Plans.{erase, write, Plan, single, double, plan, writes, copySteps, stepsOf, holds, readCase, reading, nextVersion, updated, updateFrom, update, member, target, recoverTo, recoverNewer, recoverCase, recovery, Call, for-update, for-recovery, firstPlan}
@@ -27,7 +27,7 @@ use Rattle.bbt.specs.Regions.{Region, view, statusAt, bytesAt, Blank, Co
 use Rattle.bbt.proofs.LeftPages.{Judged, judge}
 use Rattle.bbt.proofs.Planning.{asked-is}
 use Rattle.bbt.proofs.Searches.{all-at, same-eq}
-use Rattle.bbt.proofs.Small.{SmallTable, small-append, small-replicate, image-bytes}
+use Rattle.bbt.proofs.Small.{small-append, small-replicate, image-bytes}
 
 ok8 : Judged chip8
 unfolding chipOf isBlocks

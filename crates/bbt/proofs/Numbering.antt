@@ -8,7 +8,7 @@ use native.Mathlib.Omega.{arith}
 use Rattle.chip.specs.Large.{pagesOf}
 use Rattle.chip.specs.declared.LargeChip.{LargeChip}
 use Rattle.bbt.specs.declared.Step.{Step as ToldStep}
-use Rattle.bbt.specs.Histories.{Snapshot, snapshot, answer, asked, Hand, empty, holding, World, world, Last, Event, plan-refused, update-planned, recovery-planned, step-done, step-cut, cut-between, no-step-left, no-plan, History, start, next}
+use Rattle.bbt.specs.Histories.{Snapshot, snapshot, answer, Hand, empty, holding, World, world, Last, Event, plan-refused, update-planned, recovery-planned, step-done, step-cut, cut-between, no-step-left, no-plan, History, start, next}
 use Rattle.bbt.specs.Images.{imageAt, planImage}
 use Rattle.bbt.specs.Plans.{Step, erase, write, Plan, stepsOf, plan, Call}
 use Rattle.bbt.specs.PowerCuts.{Pictures, Numbered, Start, settled-at}

@@ -1,25 +1,25 @@
 -- A copy being written: its block is erased, then its pages are written one by one, while the other kind's copy stands elsewhere. What a
 -- step of it, done or cut, makes of the region, once for every kind, block and number of pages.
 -- Assumes nothing.
-use mathlib.Core.Bool.{true, false}
-use mathlib.Core.List.{List, [], _∷_}
+use mathlib.Core.Bool.{false}
+use mathlib.Core.List.{List, _∷_}
 use mathlib.Core.Logic.{_⊎_, inl, inr, _≢_}
 use mathlib.Core.Path.{_≡_, refl, sym, _∙_}
-use Prim.Native.Nat.{ℕ, zero, suc, _+_, _*_, _<_, _≤_}
+use Prim.Native.Nat.{ℕ, zero, suc, _+_, _<_}
 use native.Mathlib.Decide.{ℕ-discrete}
 use native.Mathlib.Omega.{arith}
 use lib.ListN.{length}
 use Rattle.chip.specs.Large.{bitmapBytes, pagesOf}
 use Rattle.chip.specs.declared.LargeChip.{LargeChip}
 use Rattle.bbt.specs.declared.Kind.{Kind}
-use Rattle.bbt.specs.Copies.{Table, good, readsBad, table}
+use Rattle.bbt.specs.Copies.{Table, readsBad}
 use Rattle.bbt.specs.Histories.{OthersKept, Done, Cut}
 use Rattle.bbt.specs.Images.{Imaged, page-image, image}
 use Rattle.bbt.specs.Plans.{Step, erase, write, writes, copySteps}
 use Rattle.bbt.specs.PowerCuts.{Pictures}
 use Rattle.bbt.specs.Regions.{Region, view, Blank, Unreadable, Kept}
 use Rattle.bbt.proofs.Blocks.{Foreign, not-good}
-use Rattle.bbt.proofs.Forms.{Sole, Missing, Clear, Room, Lacks, Fill, Whole, Frame, sole-kept, missing-kept, sole-new, missing-clear, sole-clear, sole-same, clear-same, whole-copy}
+use Rattle.bbt.proofs.Forms.{Sole, Clear, Room, Lacks, Fill, Whole, Frame, sole-kept, missing-kept, sole-new, missing-clear, whole-copy}
 use Rattle.bbt.proofs.LeftPages.{Judged, Twin, twin-sym, Stands}
 use Rattle.bbt.proofs.Outcomes.{blank-foreign, unreadable-foreign, stands-foreign, blank-fit, unreadable-fit, stands-fit, kept-fit, complete-kept, blank-kept}
 use Rattle.bbt.proofs.Searches.{all-or-some, below-suc}
@@ -247,18 +247,6 @@ module _ {chip : LargeChip} (ok : Judged chip) where
     pub place-cut : {e : Step} {es : List Step} → Placing r k j b g x c rest (e ∷ es) → OthersKept e r s → Broke e r s → Left r s k j b g x c
     place-cut (place-start w t cl ft hb ne) sp d = cut-erase sp d o t cl ft hb ne
     place-cut (place-fill n q e w l) sp d = write-cut r s k j b g x c q l (omega arith) sp n e d
-
-  module _ (r s : Region chip) {k j : Kind} {b g : ℕ} {x c : Table} where
-    -- after a cut
-    pub left-twin : Sole r j g c → Left r s k j b g x c → Sole s j g c
-    left-twin t (unchanged f) = sole-same ok r s f t
-    left-twin t (lacks l) = l .twin
-    left-twin t (whole u v w) = u
-
-    pub left-clear : Clear r k b → Left r s k j b g x c → Clear s k b
-    left-clear t (unchanged f) = clear-same ok r s f t
-    left-clear t (lacks l) = missing-clear ok (l .lacking) b
-    left-clear t (whole u v w) = sole-clear ok v
 
   module _ (r s : Region chip) {k j : Kind} {b g : ℕ} {x c : Table} {rest : List Step} where
     -- the block that the next step touches

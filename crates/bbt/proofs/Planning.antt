@@ -1,30 +1,30 @@
 -- What the library plans: a region's case says which good copies there are, so what it takes for the plan's steps is there (`Ready`), for
 -- any region image; and from a sound region a recovery is planned, of the table that the region holds.
 -- Assumes nothing.
-use mathlib.Core.Bool.{Bool, true, false, not, _&&_, _||_, cond, true≢false}
+use mathlib.Core.Bool.{Bool, true, false, cond, true≢false}
 use mathlib.Core.List.{List, [], _∷_}
 use mathlib.Core.Logic.{_≢_}
 use mathlib.Core.Option.{Option, none, some}
 use mathlib.Core.Path.{_≡_, refl, sym, ap, _∙_, subst}
-use Prim.Native.Nat.{ℕ, zero, suc, _+_, _*_, _-_, _%_, _<_}
+use Prim.Native.Nat.{ℕ, zero, suc, _+_, _-_, _%_, _<_}
 use native.Mathlib.Omega.{arith}
 use borrow.Author.Tests.{eqb-true, eq-eqb, ne-eqb, lt-ltb}
-use lib.Dec.{eqb, ltb, lt→ltb}
+use lib.Dec.{eqb, ltb}
 use lib.IntN.{ℤ, pos, negsuc}
 use lib.ListN.{length, getD}
-use Rattle.bits.proofs.Both.{both-left, both-right, both-intro}
+use Rattle.bits.proofs.Both.{both-intro}
 use Rattle.chip.specs.Large.{bitmapBytes, pagesOf, regionPages, regionBytes}
 use Rattle.chip.specs.declared.LargeChip.{LargeChip}
 use Rattle.chip.specs.declared.Refusal.the-variants.{Length, Opposite}
 use Rattle.bbt.specs.declared.Kind.{Kind}
 use Rattle.bbt.specs.declared.Kind.the-variants.{Primary, Mirror}
 use Rattle.bbt.specs.Copies.{Table, table, readsBad, Found, nowhere, only, several}
-use Rattle.bbt.specs.Entries.{updatedBytes, andBytes}
+use Rattle.bbt.specs.Entries.{updatedBytes}
 use Rattle.bbt.specs.Histories.{Snapshot, snapshot, answer, asked}
 use Rattle.bbt.specs.Images.{planImage}
 use Rattle.bbt.specs.Lent.{regionLent, statusesRight, callLent, lentPlan, planned, imaged}
 use Rattle.bbt.specs.Pairs.{same, signedOf, difference, Case, no-pair, alone, settled, merging, differing, bothCase, compared, caseOf, copies, pairCase}
-use Rattle.bbt.specs.Plans.{Reading, refused, holds, readCase, reading, Plan, idle, single, double, Answer, refuse, plan, nextVersion, updated, updateFrom, update, member, target, otherKind, recoverTo, anded, recoverNewer, recoverCase, recovery, Call, for-update, for-recovery, firstPlan}
+use Rattle.bbt.specs.Plans.{Reading, refused, holds, readCase, reading, Plan, idle, single, double, refuse, plan, nextVersion, updated, updateFrom, update, member, isFree, target, otherKind, recoverTo, anded, recoverNewer, recoverCase, recovery, Call, for-update, for-recovery, firstPlan}
 use Rattle.bbt.specs.PowerCuts.{Keeps}
 use Rattle.bbt.specs.Regions.{Region, view}
 use Rattle.bbt.proofs.Forms.{Sole, Missing, Clear, Room, Lacks, Sound, twins, ahead, one-left, sole-clear, sole-in, sole-fit, sole-length, sole-apart, missing-clear}
@@ -217,23 +217,19 @@ module _ {chip : LargeChip} (ok : Judged chip) where
   -- ---- targets
   target-free : (r : Region chip) (g t : ℕ) → target chip (view r) (g ∷ []) ≡ some t → (t < chip .region) × (g ≢ t) × (readsBad (view r) t ≡ false)
   unfolding target member
-  target-free r g t e =
-      let h : Passes (chip .region) (λ b. not (member b (g ∷ [])) && not (readsBad (view r) b)) t =
-      highest-is (chip .region) (λ b. not (member b (g ∷ [])) && not (readsBad (view r) b)) t e in
-      go (eqb t g) refl (readsBad (view r) t) refl (h .below) (h .passing)
+  target-free r g t e = go (eqb t g) refl (readsBad (view r) t) refl (highest-is (chip .region) (isFree (view r) (g ∷ [])) t e)
     where
-      go : (x : Bool) → eqb t g ≡ x → (y : Bool) → readsBad (view r) t ≡ y → t < chip .region → (not (eqb t g || false) && not (readsBad (view r) t)) ≡ true
+      go : (x : Bool) → eqb t g ≡ x → (y : Bool) → readsBad (view r) t ≡ y → Passes (chip .region) (isFree (view r) (g ∷ [])) t
           → (t < chip .region) × (g ≢ t) × (readsBad (view r) t ≡ false)
-      go true ex y ey l p = absurd (true≢false (sym p ∙ rw ex))
-      go false ex true ey l p = absurd (true≢false (sym p ∙ rw (ex, ey)))
-      go false ex false ey l p = (l, (λ z. true≢false (sym (eq-eqb t g (sym z)) ∙ ex)), ey)
+      go true ex y ey h = absurd (true≢false (sym (h .passing) ∙ rw ex))
+      go false ex true ey h = absurd (true≢false (sym (h .passing) ∙ rw (ex, ey)))
+      go false ex false ey h = (h .below, (λ z. true≢false (sym (eq-eqb t g (sym z)) ∙ ex)), ey)
 
   target-there : (r : Region chip) (g : ℕ) → Room r g → (t : ℕ) × (target chip (view r) (g ∷ []) ≡ some t)
   unfolding target member
   target-there r g room =
-      let e : (not (member (room .spot) (g ∷ [])) && not (readsBad (view r) (room .spot))) ≡ true =
-      rw (ne-eqb (room .spot) g (room .spot-off), room .spot-fit) in
-      highest-some (chip .region) (λ b. not (member b (g ∷ [])) && not (readsBad (view r) b)) (room .spot) (room .spot-in) e
+      let e : isFree (view r) (g ∷ []) (room .spot) ≡ true = rw (ne-eqb (room .spot) g (room .spot-off), room .spot-fit) in
+      highest-some (chip .region) (isFree (view r) (g ∷ [])) (room .spot) (room .spot-in) e
 
   -- ---- a plan finds what its steps take, at any region
   to-ready : (r : Region chip) (x : Plan) (q : Plan) → plan x ≡ plan q → Ready r x → Ready r q

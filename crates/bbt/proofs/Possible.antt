@@ -5,30 +5,28 @@ use mathlib.Core.Bool.{Bool, true, false, true≢false}
 use mathlib.Core.List.{List, [], _∷_, _++_}
 use mathlib.Core.Logic.{_⊎_, inl, inr}
 use mathlib.Core.Path.{_≡_, refl, sym, ap, _∙_, subst}
-use Prim.Native.Nat.{ℕ, zero, suc, _+_, _*_, _-_, _<_, _≤_}
+use Prim.Native.Nat.{ℕ, zero, suc, _+_, _<_, _≤_}
 use native.Mathlib.Decide.{ℕ-discrete}
 use native.Mathlib.Omega.{arith}
 use lib.Dec.{lit<}
-use lib.ListN.{length, take, drop, getD, replicate, length-append, length-take, length-drop, length-replicate}
+use lib.ListN.{length, take, drop, replicate, length-append, length-take, length-drop, length-replicate}
 use lib.Seq.{take-at, drop-append-add}
 use Rattle.chip.specs.Large.{pagesOf}
 use Rattle.chip.specs.declared.LargeChip.{LargeChip}
 use Rattle.bbt.specs.declared.Kind.the-variants.{Primary}
-use Rattle.bbt.specs.Copies.{Table}
-use Rattle.bbt.specs.Histories.{Written, Done, Cut, OthersKept, Last, one-table, pending, closed, NewPrimary, Closes, as-one, as-closed, was-complete, was-not, AfterStep, Snapshot, asked, holding, empty, World, world, step-done, step-cut, History}
+use Rattle.bbt.specs.Histories.{Written, Done, Cut, OthersKept, Last, one-table, pending, closed, Closes, as-one, as-closed, was-complete, was-not, AfterStep, Snapshot, asked, step-done, step-cut}
 use Rattle.bbt.specs.Images.{Imaged, page-image, image}
 use Rattle.bbt.specs.Pairs.{same}
 use Rattle.bbt.specs.Plans.{Step, erase, write, Call, for-update}
-use Rattle.bbt.specs.Possible.{Bytes, Fate, kept, blanked, completed, spoilt, CutAllows, DoneAllows, Met, AllMet, CanHappen, Possible, NothingLeftOut}
-use Rattle.bbt.specs.PowerCuts.{InRegion, Pictures, Harmless, Start}
+use Rattle.bbt.specs.Possible.{Bytes, Fate, kept, blanked, completed, spoilt, CutAllows, DoneAllows, Met, AllMet, CanHappen, NothingLeftOut}
+use Rattle.bbt.specs.PowerCuts.{Pictures, Harmless}
 use Rattle.bbt.specs.Regions.{Region, statusAt, bytesAt, Blank, Complete, Unreadable, Kept}
-use Rattle.bbt.specs.Told.{chipBlock}
 use Rattle.bbt.proofs.LeftPages.{Judged, judge}
-use Rattle.bbt.proofs.Numbering.{started, tracked, track-numbered}
+use Rattle.bbt.proofs.Numbering.{started, tracked}
 use Rattle.bbt.proofs.Outcomes.{complete-kept, blank-kept}
 use Rattle.bbt.proofs.Planning.{plan-asked, update-reads}
 use Rattle.bbt.proofs.PowerCuts.{demand3}
-use Rattle.bbt.proofs.Putting.{Put, put-page}
+use Rattle.bbt.proofs.Putting.{put-page}
 use Rattle.bbt.proofs.Searches.{below-suc, all-or-some, same-refl, same-eq}
 use Rattle.bbt.proofs.Small.{small-append, small-replicate, small-take, small-drop, SmallStep, small-next, image-bytes}
 

@@ -20,19 +20,18 @@ use Rattle.chip.specs.Large.{bitmapBytes, pagesOf}
 use Rattle.chip.specs.declared.LargeChip.{LargeChip}
 use Rattle.bbt.specs.declared.Kind.{Kind}
 use Rattle.bbt.specs.declared.Kind.the-variants.{Primary, Mirror}
-use Rattle.bbt.specs.Copies.{Table, good, table, readsBad}
+use Rattle.bbt.specs.Copies.{Table, good}
 use Rattle.bbt.specs.Histories.{OthersKept, Last, one-table, pending, closed, begun, NewPrimary, Closes, as-one, as-closed, was-complete, was-not, AfterStep, Snapshot, snapshot, Hand, empty, holding, World, world, answer, asked, Event, plan-refused, update-planned, recovery-planned, step-done, step-cut, cut-between, no-step-left, no-plan, History, start, next}
-use Rattle.bbt.specs.Lent.{callLent}
-use Rattle.bbt.specs.Plans.{Step, erase, write, Plan, idle, single, double, stepsOf, copySteps, plan, reading, holds, updated, recovery, Call, for-update, for-recovery, firstPlan}
-use Rattle.bbt.specs.PowerCuts.{InRegion, Keeps, Outcome, regionOf, Settled, Start, settled-at, Settles, Harmless, Numbered, NextStep, Promise, SafeUnderCuts, Demand3}
+use Rattle.bbt.specs.Plans.{Step, Plan, stepsOf, copySteps, plan, updated, recovery, Call, for-update, for-recovery, firstPlan}
+use Rattle.bbt.specs.PowerCuts.{InRegion, Keeps, Outcome, regionOf, Settled, Start, settled-at, Settles, Harmless, NextStep, Promise, Demand3}
 use Rattle.bbt.specs.Regions.{Region, view}
 use Rattle.bbt.specs.Told.{chipBlock}
-use Rattle.bbt.proofs.Forms.{Sole, Missing, Clear, Lacks, Sound, twins, ahead, one-left, Whole, Frame, sole-clear, sole-in, sole-fit, sole-length, sole-apart, sole-same, sound-same, whole-copy, missing-clear}
+use Rattle.bbt.proofs.Forms.{Sole, Missing, Sound, twins, ahead, one-left, Frame, sole-clear, sole-in, sole-fit, sole-length, sole-apart, sound-same, whole-copy}
 use Rattle.bbt.proofs.LeftPages.{Judged, judge, Twin, primary-kind, mirror-kind}
 use Rattle.bbt.proofs.Numbering.{InHand, HandOf, started, tracked, track-numbered}
 use Rattle.bbt.proofs.Outcomes.{complete-kept}
 use Rattle.bbt.proofs.Placing.{Did, did, Broke, broke, Placing, place-start, place-fill, Went, more, placed, Left, unchanged, lacks, whole, place-done, place-cut, place-frame, place-twin}
-use Rattle.bbt.proofs.Planning.{News, Update, no-news, news, updates, next-differs, sole-table, settled-reading, reading-settled, plan-first, plan-asked, Ready, nothing-to-do, one-to-place, both-to-place, plan-ready, Of, recovers, no-merge, sound-settled}
+use Rattle.bbt.proofs.Planning.{News, Update, no-news, news, updates, next-differs, settled-reading, reading-settled, plan-first, plan-asked, Ready, nothing-to-do, one-to-place, both-to-place, plan-ready, Of, recovers, no-merge, sound-settled}
 use Rattle.bbt.proofs.Searches.{nowhere-find}
 
 -- ---- the invariant

@@ -3,27 +3,26 @@
 use mathlib.Core.Bool.{Bool, true, false, cond}
 use mathlib.Core.List.{List, [], _∷_, _++_}
 use mathlib.Core.Option.{Option, none, some}
-use mathlib.Core.Path.{_≡_, refl, sym, ap, _∙_, subst}
-use Prim.Native.Nat.{ℕ, zero, suc, _+_, _*_, _-_, _/_, _%_, _<_}
+use mathlib.Core.Path.{_≡_, subst}
+use Prim.Native.Nat.{ℕ, zero, suc, _+_, _*_, _-_, _%_, _<_}
 use native.Mathlib.Omega.{arith}
 use lib.Bits.{bitAnd, and-le-l}
 use lib.Dec.{eqb, lit<}
-use lib.IntN.{ℤ, pos, negsuc}
-use lib.ListN.{length, take, drop, getD, replicate, length-append, length-replicate}
+use lib.IntN.{pos, negsuc}
+use lib.ListN.{length, take, drop, getD, replicate, length-append}
 use lib.Seq.{getD-drop}
 use Rattle.bits.specs.Bytes.{wordBytes}
 use Rattle.chip.specs.Large.{pagesOf}
 use Rattle.chip.specs.declared.LargeChip.{LargeChip}
 use Rattle.bbt.specs.declared.Kind.{Kind}
-use Rattle.bbt.specs.declared.Kind.the-variants.{Primary, Mirror, Neither}
+use Rattle.bbt.specs.declared.Kind.the-variants.{Primary, Mirror}
 use Rattle.bbt.specs.Copies.{Table, pagePart, parts, table}
 use Rattle.bbt.specs.Entries.{updatedByte, updatedBytes, andBytes}
-use Rattle.bbt.specs.Histories.{Snapshot, answer}
+use Rattle.bbt.specs.Histories.{Snapshot}
 use Rattle.bbt.specs.Images.{chunk, imageData, imageTail, pageImage, image}
-use Rattle.bbt.specs.Lent.{callLent}
 use Rattle.bbt.specs.Pages.{marked, unreadable, reads, pageBytes, kindOf, versionOf, kindWord, partLength, badPage, pageOf, seen}
 use Rattle.bbt.specs.Pairs.{same, Case, no-pair, alone, settled, merging, differing, pairCase}
-use Rattle.bbt.specs.Plans.{Step, erase, write, Plan, idle, single, double, writes, copySteps, stepsOf, Answer, refuse, plan, Reading, refused, holds, readCase, reading, nextVersion, updated, updateFrom, update, target, otherKind, recoverTo, anded, recoverNewer, recoverCase, recovery, Call, for-update, for-recovery, firstPlan}
+use Rattle.bbt.specs.Plans.{Step, erase, write, Plan, idle, single, double, writes, copySteps, stepsOf, Answer, refuse, plan, readCase, reading, nextVersion, updated, updateFrom, update, target, otherKind, recoverTo, anded, recoverNewer, recoverCase, recovery, Call, for-update, for-recovery, firstPlan}
 use Rattle.bbt.specs.Possible.{Bytes}
 use Rattle.bbt.specs.Regions.{Region, view, statusAt, bytesAt}
 use Rattle.bbt.proofs.LeftPages.{Judged, version-byte, length-imageData, chunk-length}

@@ -1,7 +1,7 @@
 -- Views that agree in the region have the same answers: block by block first, then the pair's case, then reading and planning, which go by
 -- the case and ask only of blocks that are in it.
 -- Assumes nothing.
-use mathlib.Core.Bool.{Bool, true, false, not, cond, _&&_}
+use mathlib.Core.Bool.{Bool, true, false, cond}
 use mathlib.Core.List.{List, [], _∷_}
 use mathlib.Core.Path.{_≡_, refl, ap, ap₂, _∙_}
 use Prim.Native.Nat.{ℕ, zero, suc, _<_}
@@ -15,7 +15,7 @@ use Rattle.bbt.specs.declared.Kind.the-variants.{Primary, Mirror}
 use Rattle.bbt.specs.Copies.{Table, pageVersion, isPage, isMarked, good, readsBad, parts, table, Found, nowhere, only, several}
 use Rattle.bbt.specs.Pages.{Page, View}
 use Rattle.bbt.specs.Pairs.{Case, no-pair, alone, settled, merging, differing, bothCase, compared, caseOf, copies, pairCase}
-use Rattle.bbt.specs.Plans.{readCase, reading, updateFrom, update, member, target, otherKind, recoverTo, anded, recoverNewer, recoverCase, recovery, holds, plan, idle, double, Call, for-update, for-recovery, firstPlan}
+use Rattle.bbt.specs.Plans.{readCase, reading, updateFrom, update, isFree, target, otherKind, recoverTo, anded, recoverNewer, recoverCase, recovery, holds, plan, idle, double, Call, for-update, for-recovery, firstPlan}
 use Rattle.bbt.proofs.Searches.{all-cong, parts-cong, find-cong, only-find, highest-cong}
 
 -- ---- the blocks that a case names
@@ -94,8 +94,8 @@ module _ (chip : LargeChip) (some-page : 0 < pagesOf chip) (R S : View)
   targets-agree : (avoid : List ℕ) → target chip R avoid ≡ target chip S avoid
   unfolding target
   targets-agree avoid =
-      highest-cong (chip .region) (λ b. not (member b avoid) && not (readsBad R b)) (λ b. not (member b avoid) && not (readsBad S b))
-      (λ b h. ap (λ (x : Bool). not (member b avoid) && not x) (bad-agrees (pagesOf chip) some-page R S b (λ p. agree b p h)))
+      highest-cong (chip .region) (isFree R avoid) (isFree S avoid)
+      (λ b h. let e : readsBad R b ≡ readsBad S b = bad-agrees (pagesOf chip) some-page R S b (λ p. agree b p h) in cc)
 
   cases-agree : pairCase chip R ≡ pairCase chip S
   unfolding pairCase caseOf

@@ -1,7 +1,7 @@
 -- Two histories by number, N = 8 and all blocks good at version 255: an update that marks block 3 late is cut as its new primary is written.
 -- The page is left unreadable, and the recovery keeps the old table; or it is left complete, and the recovery keeps the new one.
 use mathlib.Core.Bool.{Bool, true, false}
-use mathlib.Core.List.{List, [], _∷_}
+use mathlib.Core.List.{[], _∷_}
 use mathlib.Core.Path.{_≡_}
 use Prim.Native.Nat.{ℕ}
 use Rattle.chip.specs.declared.LargeChip.{LargeChip}

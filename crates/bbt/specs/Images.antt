@@ -10,7 +10,7 @@ use Rattle.chip.specs.declared.Refusal.the-variants.{Range}
 use Rattle.bbt.specs.declared.Kind.{Kind}
 use Rattle.bbt.specs.Copies.{Table}
 use Rattle.bbt.specs.Pages.{kindWord}
-use Rattle.bbt.specs.Plans.{Step, erase, write, Plan, stepsOf, Answer, refuse, plan}
+use Rattle.bbt.specs.Plans.{Step, erase, write, stepsOf, Answer, refuse, plan}
 
 -- page p's bytes of a bitmap
 unfoldable pub chunk : ℕ → List ℕ → List ℕ

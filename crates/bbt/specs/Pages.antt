@@ -1,6 +1,6 @@
 -- Document 01, "Large chip": the pages of a region image, and what is seen of a page. Every rule of the region is a function of what is seen.
 use mathlib.Core.Bool.{Bool, true, false, cond, _&&_}
-use mathlib.Core.List.{List, [], _∷_}
+use mathlib.Core.List.{List}
 use Prim.Native.Nat.{ℕ, _+_, _*_, _-_, min}
 use lib.Dec.{eqb}
 use lib.ListN.{take, drop, getD}

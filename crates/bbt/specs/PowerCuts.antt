@@ -1,6 +1,6 @@
 -- Demand 3, as document 01's "Histories" words it: one claim about the whole list of events, from any settled pair, for every N.
 use mathlib.Core.Bool.{true, false}
-use mathlib.Core.List.{List, [], _∷_}
+use mathlib.Core.List.{[], _∷_}
 use mathlib.Core.Logic.{_≢_}
 use mathlib.Core.Path.{_≡_}
 use Prim.Native.Nat.{ℕ, _-_, _<_, _≤_}
@@ -11,7 +11,7 @@ use Rattle.chip.specs.declared.LargeChip.{LargeChip}
 use Rattle.chip.specs.declared.Refusal.the-variants.{Range}
 use Rattle.bbt.specs.Copies.{Table, readsBad}
 use Rattle.bbt.specs.Entries.{entryOf}
-use Rattle.bbt.specs.Histories.{Last, one-table, pending, closed, Snapshot, snapshot, answer, asked, Hand, empty, holding, World, world, History}
+use Rattle.bbt.specs.Histories.{Last, one-table, pending, closed, Snapshot, snapshot, answer, asked, empty, holding, World, world, History}
 use Rattle.bbt.specs.Images.{Imaged, no-image, page-image, image}
 use Rattle.bbt.specs.Pairs.{merging, pairCase}
 use Rattle.bbt.specs.Plans.{Step, erase, write, Plan, plan, Call, for-update, for-recovery, reading, holds}

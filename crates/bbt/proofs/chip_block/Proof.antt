@@ -1,9 +1,8 @@
 -- `chip_block` meets its contract: a difference below 0 is 0.
 -- Assumes nothing.
-use mathlib.Core.Path.{_≡_, ap, sym}
+use mathlib.Core.Path.{_≡_, ap}
 use Prim.Native.Nat.{ℕ, _+_, _-_}
 use native.Mathlib.Omega.{arith}
-use Rattle.chip.specs.declared.ChipBlock.{ChipBlock}
 use borrow.Author.Needs.{needs}
 use Rattle.bbt.proofs.chip_block.Statement.{statement}
 use Rattle.bbt.proofs.chip_block.Tie as tie
