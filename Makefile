@@ -19,7 +19,7 @@ programs := $(host)/example $(host)/host_test $(host)/host_test_sanitized $(host
 headers := $(wildcard include/*.h host/*.h)
 reference := host/reference.c host/reference_large.c
 test_sources := host/host_test.c host/test_small.c host/test_large.c host/scenes.c host/lengths.c \
-	host/calls.c host/lent.c host/region.c $(reference)
+	host/calls.c host/lent.c host/drawn.c host/region.c $(reference)
 bench_sources := host/bench.c host/region.c $(reference)
 
 compile = $(CC) $(WARNINGS) $(CFLAGS) -Iinclude

@@ -22,7 +22,7 @@ void cast_draw_spoilt(struct test *test, struct cast *cast)
 	const unsigned pages = ream_table_pages(cast->n);
 
 	cast->page = (unsigned)draw_below(&test->state, pages);
-	cast->way = (enum way)draw_below(&test->state, pages == 1 ? OTHER_SIGNATURE : WAYS);
+	cast->way = drawn_way(&test->state, pages);
 }
 
 static bool is_good(enum role role, enum kind kind)
@@ -40,27 +40,8 @@ static void spoil(struct test *test, struct region *region, unsigned block, enum
 		  const struct cast *cast)
 {
 	const bool first_unsigned = cast->page == 0 && (cast->way == BLANKED || cast->way == WRONG_SIGNATURE);
-	uint8_t *oob = region_oob(region, block, cast->page);
 
-	switch (cast->way) {
-	case UNREADABLE:
-		*region_status(region, block, cast->page) = 1;
-		break;
-	case BLANKED:
-		memset(region_data(region, block, cast->page), 0xFF, PAGE_BYTES);
-		break;
-	case WRONG_SIGNATURE:
-		oob[SIGNATURE + draw_below(&test->state, 4)] ^= (uint8_t)(1 << draw_below(&test->state, 8));
-		break;
-	case OTHER_SIGNATURE:
-		region_sign(region, block, cast->page, kind == PRIMARY ? MIRROR : PRIMARY);
-		break;
-	case OTHER_VERSION:
-		oob[VERSION] ^= (uint8_t)(1 + draw_below(&test->state, 255));
-		break;
-	case WAYS:
-		break;
-	}
+	drawn_spoil(&test->state, region, block, cast->page, kind, cast->way);
 	if (!first_unsigned && draw_below(&test->state, 2) == 0)
 		region_oob(region, block, 0)[0] = 0;
 }
@@ -132,27 +113,15 @@ void scene_rebuild(struct test *test, struct scene *scene, const struct cast *ca
 		play(test, scene, block, cast);
 }
 
-/* A bitmap of which most entries are good, as in a chip's life; one in four is anything. */
-static void draw_table(struct test *test, uint8_t *table, uint64_t n)
-{
-	if (draw_below(&test->state, 4) == 0) {
-		draw_bytes(&test->state, table, (size_t)n / 4);
-		return;
-	}
-	memset(table, 0xFF, (size_t)n / 4);
-	for (uint64_t i = draw_below(&test->state, 8); i > 0; i--)
-		ream_entry_set(table, draw_below(&test->state, n), (unsigned)draw_below(&test->state, 4));
-}
-
 void scene_build(struct test *test, struct scene *scene, const struct cast *cast)
 {
 	const size_t len = (size_t)cast->n / 4;
 
-	draw_table(test, scene->table[PRIMARY], cast->n);
+	drawn_table(&test->state, scene->table[PRIMARY], cast->n);
 	memcpy(scene->table[MIRROR], scene->table[PRIMARY], len);
 	if (!cast->equal)
 		scene->table[MIRROR][draw_below(&test->state, len)] ^= (uint8_t)(1 << draw_below(&test->state, 8));
-	draw_table(test, scene->wanted, cast->n);
+	drawn_table(&test->state, scene->wanted, cast->n);
 	memset(scene->marks, 0xFF, (size_t)cast->n);
 	scene->marks[draw_below(&test->state, cast->n)] = 0;
 	scene_rebuild(test, scene, cast);
@@ -160,27 +129,7 @@ void scene_build(struct test *test, struct scene *scene, const struct cast *cast
 
 void scene_stir(struct test *test, struct scene *scene)
 {
-	struct region *region = &scene->region;
-
-	for (unsigned block = 0; block < REGION_BLOCKS; block++) {
-		for (unsigned page = 0; page < region->pages; page++) {
-			uint8_t *data = region_data(region, block, page);
-			uint8_t *oob = region_oob(region, block, page);
-			const size_t part = region_part_len(region, page);
-
-			if (*region_status(region, block, page) == 1) {
-				draw_bytes(&test->state, data, PAGE_BYTES);
-				continue;
-			}
-			draw_bytes(&test->state, data + part, PAGE_DATA - part);
-			draw_bytes(&test->state, oob + 1, SIGNATURE - 1);
-			draw_bytes(&test->state, oob + VERSION + 1, PAGE_OOB - VERSION - 1);
-			if (page > 0)
-				oob[0] = (uint8_t)draw(&test->state);
-			else if (oob[0] != 0)
-				oob[0] = (uint8_t)(1 + draw_below(&test->state, 255));
-		}
-	}
+	drawn_stir(&test->state, &scene->region);
 }
 
 /* ---- calls */

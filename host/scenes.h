@@ -13,6 +13,7 @@
 #include <stdint.h>
 
 #include "calls.h"
+#include "drawn.h"
 #include "region.h"
 
 /* What a block is to be. */
@@ -28,10 +29,6 @@ enum role {
 	SPOILT_MIRROR,
 	ROLES,
 };
-
-/* How a page is spoilt. The last two are for copies of several pages: they turn a single page into a good
- * copy of another kind or version. */
-enum way { UNREADABLE, BLANKED, WRONG_SIGNATURE, OTHER_SIGNATURE, OTHER_VERSION, WAYS };
 
 struct cast {
 	uint64_t n;
