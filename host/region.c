@@ -71,6 +71,23 @@ bool region_signed(const struct region *region, unsigned block, unsigned page, e
 	return memcmp(region_page(region, block, page) + PAGE_DATA + SIGNATURE, signatures[kind], 4) == 0;
 }
 
+bool region_good(const struct region *region, unsigned block, enum kind kind)
+{
+	const uint8_t version = region_page(region, block, 0)[PAGE_DATA + VERSION];
+
+	for (unsigned page = 0; page < region->pages; page++)
+		if (!region_reads_well(region, block, page) || !region_signed(region, block, page, kind) ||
+		    region_page(region, block, page)[PAGE_DATA + VERSION] != version)
+			return false;
+	return true;
+}
+
+bool region_bad(const struct region *region, unsigned block)
+{
+	return region_reads_well(region, block, 0) && !region_signed(region, block, 0, PRIMARY) &&
+	       !region_signed(region, block, 0, MIRROR) && region_page(region, block, 0)[PAGE_DATA] == 0;
+}
+
 void region_sign(struct region *region, unsigned block, unsigned page, enum kind kind)
 {
 	memcpy(region_oob(region, block, page) + SIGNATURE, signatures[kind], 4);

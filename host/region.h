@@ -57,6 +57,10 @@ void region_erase(struct region *region, unsigned block);
 /* Does a page carry the signature of a kind? */
 bool region_signed(const struct region *region, unsigned block, unsigned page, enum kind kind);
 
+/* Document 01's words: is a block a good copy of a kind? Is it readable as bad? */
+bool region_good(const struct region *region, unsigned block, enum kind kind);
+bool region_bad(const struct region *region, unsigned block);
+
 /* Sets the signature of a page. */
 void region_sign(struct region *region, unsigned block, unsigned page, enum kind kind);
 
