@@ -4,7 +4,8 @@
 #   make            the library and the host programs
 #   make run        the example, host/example.c
 #   make test       the gate: all proofs and all tests (.ci/run)
-#   make host-test  the host test, as it is and built with sanitizers
+#   make host-test  the host test and a fixed run of the power-cut simulator, plain and built with sanitizers
+#   make soak       the power-cut simulator until it is interrupted; SEED=1 HISTORIES=100000 runs so many
 #   make bench      the time of each entry beside the reference's
 #   make clean      removes target/
 
@@ -15,16 +16,23 @@ SANITIZE := -g -fsanitize=address,undefined -fno-sanitize-recover=all
 
 library := target/staticlib/libreamsickle.a
 host := target/host
-programs := $(host)/example $(host)/host_test $(host)/host_test_sanitized $(host)/bench
+programs := $(host)/example $(host)/host_test $(host)/host_test_sanitized \
+	$(host)/histories $(host)/histories_sanitized $(host)/bench
 headers := $(wildcard include/*.h host/*.h)
 reference := host/reference.c host/reference_large.c
 test_sources := host/host_test.c host/test_small.c host/test_large.c host/scenes.c host/lengths.c \
-	host/calls.c host/lent.c host/region.c $(reference)
+	host/calls.c host/lent.c host/drawn.c host/region.c $(reference)
+history_sources := host/histories.c host/history.c host/checker.c host/driver.c host/rig.c host/tally.c \
+	host/lent.c host/drawn.c host/region.c $(reference)
 bench_sources := host/bench.c host/region.c $(reference)
 
 compile = $(CC) $(WARNINGS) $(CFLAGS) -Iinclude
 
-.PHONY: all run test host-test bench clean
+# What `make soak` runs. 0 histories go on until they are interrupted.
+SEED ?= $(shell date +%s%N)
+HISTORIES ?= 0
+
+.PHONY: all run test host-test soak bench clean
 .DELETE_ON_ERROR:
 
 all: $(library) $(programs)
@@ -44,6 +52,12 @@ $(host)/host_test: $(test_sources) $(headers) $(library) | $(host)
 $(host)/host_test_sanitized: $(test_sources) $(headers) $(library) | $(host)
 	$(compile) $(SANITIZE) -o $@ $(test_sources) $(library)
 
+$(host)/histories: $(history_sources) $(headers) $(library) | $(host)
+	$(compile) -o $@ $(history_sources) $(library)
+
+$(host)/histories_sanitized: $(history_sources) $(headers) $(library) | $(host)
+	$(compile) $(SANITIZE) -o $@ $(history_sources) $(library)
+
 $(host)/bench: $(bench_sources) $(headers) $(library) | $(host)
 	$(compile) -o $@ $(bench_sources) $(library)
 
@@ -53,9 +67,14 @@ run: $(host)/example
 test:
 	.ci/run
 
-host-test: $(host)/host_test $(host)/host_test_sanitized
+host-test: $(host)/host_test $(host)/host_test_sanitized $(host)/histories $(host)/histories_sanitized
 	$(host)/host_test
 	$(host)/host_test_sanitized
+	$(host)/histories
+	$(host)/histories_sanitized
+
+soak: $(host)/histories
+	$(host)/histories $(SEED) $(HISTORIES)
 
 bench: $(host)/bench
 	$(host)/bench

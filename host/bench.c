@@ -34,16 +34,18 @@ struct implementation {
 	uint64_t (*table_read)(uint64_t, const uint8_t *, size_t, const uint8_t *, size_t, uint8_t *, size_t);
 	uint64_t (*update_plan)(uint64_t, const uint8_t *, size_t, const uint8_t *, size_t, const uint8_t *, size_t,
 				uint8_t *, size_t);
+	uint64_t (*update_page)(uint64_t, const uint8_t *, size_t, const uint8_t *, size_t, const uint8_t *, size_t,
+				uint64_t, uint8_t *, size_t);
 };
 
 static const struct implementation library = {
 	ream_half_code, ream_spare_write, ream_spare_read, ream_page_read,
-	ream_first_bitmap, ream_table_read, ream_update_plan,
+	ream_first_bitmap, ream_table_read, ream_update_plan, ream_update_page,
 };
 
 static const struct implementation reference = {
 	ref_half_code, ref_spare_write, ref_spare_read, ref_page_read,
-	ref_first_bitmap, ref_table_read, ref_update_plan,
+	ref_first_bitmap, ref_table_read, ref_update_plan, ref_update_page,
 };
 
 struct bench {
@@ -63,6 +65,7 @@ struct bench {
 	uint8_t marks[REGIONS][MOST_BLOCKS];		/* lent */
 	uint8_t bitmap[MOST_BITMAP];
 	uint8_t steps[64];
+	uint8_t page[PAGE_BYTES];
 };
 
 static double now(void)
@@ -197,6 +200,22 @@ static unsigned round_empty_plan(struct bench *bench, const struct implementatio
 	return plan_updates(bench, by, bench->same);
 }
 
+/* The pages of the new primary, in turn. */
+static unsigned round_update_page(struct bench *bench, const struct implementation *by)
+{
+	unsigned refusals = 0;
+
+	for (unsigned i = 0; i < REGIONS; i++) {
+		const struct region *region = &bench->region[i];
+
+		refusals |= ream_refusal(by->update_page(region->n, region->image, sizeof(region->image),
+							 region->status, sizeof(region->status),
+							 bench->wanted[i], MOST_BITMAP, 1 + i % MOST_PAGES,
+							 bench->page, PAGE_BYTES));
+	}
+	return refusals;
+}
+
 struct trial {
 	const char *entry;
 	const char *inputs;
@@ -215,6 +234,7 @@ static const struct trial trials[] = {
 	{ "ream_table_read", "settled pairs, 32,768 blocks", REGIONS, lend_regions, round_table_read },
 	{ "ream_update_plan", "the same, one entry changed", REGIONS, lend_regions, round_update_plan },
 	{ "ream_update_plan", "the same, nothing changed", REGIONS, lend_regions, round_empty_plan },
+	{ "ream_update_page", "the same, one entry changed, a page", REGIONS, lend_regions, round_update_page },
 };
 
 enum { TRIALS = sizeof(trials) / sizeof(trials[0]) };

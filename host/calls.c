@@ -100,12 +100,34 @@ static uint64_t reference_recovery_plan(const uint64_t *number, struct lent *buf
 	return ref_recovery_plan(number[0], LENT(0), LENT(1), LENT(2));
 }
 
+static uint64_t library_update_page(const uint64_t *number, struct lent *buffer)
+{
+	return ream_update_page(number[0], LENT(0), LENT(1), LENT(2), number[1], LENT(3));
+}
+
+static uint64_t reference_update_page(const uint64_t *number, struct lent *buffer)
+{
+	return ref_update_page(number[0], LENT(0), LENT(1), LENT(2), number[1], LENT(3));
+}
+
+static uint64_t library_recovery_page(const uint64_t *number, struct lent *buffer)
+{
+	return ream_recovery_page(number[0], LENT(0), LENT(1), number[1], LENT(2));
+}
+
+static uint64_t reference_recovery_page(const uint64_t *number, struct lent *buffer)
+{
+	return ref_recovery_page(number[0], LENT(0), LENT(1), number[1], LENT(2));
+}
+
 #undef LENT
 
 /* Buffers that several entries take. */
 #define IMAGE { "image", 2112, PAGE_OF_REGION, IN }
 #define STATUS { "status", 1, PAGE_OF_REGION, IN }
+#define WANTED { "wanted", 1, BYTE_OF_BITMAP, IN }
 #define STEPS { "steps", 64, BYTE, OUT }
+#define PAGE { "page", 2112, BYTE, OUT }
 
 const struct entry entries[ENTRIES] = {
 	[HALF_CODE] = {
@@ -140,7 +162,7 @@ const struct entry entries[ENTRIES] = {
 	},
 	[UPDATE_PLAN] = {
 		"ream_update_plan", 1, { "n" },
-		4, { IMAGE, STATUS, { "wanted", 1, BYTE_OF_BITMAP, IN }, STEPS },
+		4, { IMAGE, STATUS, WANTED, STEPS },
 		library_update_plan, reference_update_plan,
 	},
 	[RECOVERY_PLAN] = {
@@ -148,11 +170,23 @@ const struct entry entries[ENTRIES] = {
 		3, { IMAGE, STATUS, STEPS },
 		library_recovery_plan, reference_recovery_plan,
 	},
+	[UPDATE_PAGE] = {
+		"ream_update_page", 2, { "n", "step" },
+		4, { IMAGE, STATUS, WANTED, PAGE },
+		library_update_page, reference_update_page,
+	},
+	[RECOVERY_PAGE] = {
+		"ream_recovery_page", 2, { "n", "step" },
+		3, { IMAGE, STATUS, PAGE },
+		library_recovery_page, reference_recovery_page,
+	},
 };
 
 #undef IMAGE
 #undef STATUS
+#undef WANTED
 #undef STEPS
+#undef PAGE
 
 /* ---- messages */
 
@@ -192,7 +226,7 @@ static void show_call(const struct test *test)
 		printf("    %-10s%" PRIX64 " hex\n", entry->number_name[i], call->number[i]);
 	for (unsigned i = 0; i < entry->buffers; i++)
 		show_buffer(entry->buffer[i].name, call->bytes[i], call->len[i]);
-	if (call->index == TABLE_READ || call->index == UPDATE_PLAN || call->index == RECOVERY_PLAN)
+	if (call->index >= TABLE_READ)
 		show_region(call);
 	printf("    answer    %" PRIX64 " hex, reference %" PRIX64 " hex\n", test->answer,
 	       test->reference_answer);

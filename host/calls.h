@@ -29,7 +29,7 @@ enum {
 /* The small chip's entries, then the large chip's, which take N as their first number. */
 enum entry_index {
 	HALF_CODE, SPARE_WRITE, SPARE_READ, PAGE_READ,
-	FIRST_BITMAP, TABLE_READ, UPDATE_PLAN, RECOVERY_PLAN,
+	FIRST_BITMAP, TABLE_READ, UPDATE_PLAN, RECOVERY_PLAN, UPDATE_PAGE, RECOVERY_PAGE,
 	ENTRIES,
 	SMALL_ENTRIES = FIRST_BITMAP,
 };

@@ -1,9 +1,11 @@
 /*
  * An example for drivers, in two parts. The small chip: writes the spare of a page, flips one bit as a worn
  * chip would, reads the page back through the library, and shows a refusal. The large chip: reads the
- * bad-block table of a settled pair and plans the update that marks a block as gone bad.
+ * bad-block table, marks a block as gone bad and reads the table back; then power fails in such an update, and
+ * a recovery settles the pair again.
  */
 #include <inttypes.h>
+#include <limits.h>
 #include <stdio.h>
 #include <stdlib.h>
 #include <string.h>
@@ -68,72 +70,140 @@ static int small_chip(void)
 }
 
 /* A chip of 1,024 blocks: a copy of its table fills one page. */
-enum { BLOCKS = 1024, BITMAP_SIZE = BLOCKS / 4, IMAGE_SIZE = REAM_REGION_BLOCKS * REAM_LARGE_PAGE_SIZE };
+enum { BLOCKS = 1024, BITMAP_SIZE = BLOCKS / 4, PAGES = 1, REGION_PAGES = REAM_REGION_BLOCKS * PAGES };
 
-/* A page of the table as it stands on the chip: bitmap, signature and version, FF elsewhere. */
-static void lay_out_page(uint8_t *page, const char signature[4], uint8_t version, const uint8_t *bitmap)
+/* The region as it is lent. Here the chip itself is such a region, in memory. */
+struct region {
+	uint8_t image[REGION_PAGES * REAM_LARGE_PAGE_SIZE];
+	uint8_t status[REGION_PAGES];
+};
+
+/* A plan, with the snapshot it was made from. */
+struct plan {
+	struct region snapshot;
+	const uint8_t *wanted;	/* of an update; a recovery has none */
+	uint8_t steps[REAM_STEPS_SIZE];
+	unsigned count;
+};
+
+/* Makes a plan for the region as it is now. */
+static uint64_t plan_make(struct plan *plan, const struct region *chip, const uint8_t *wanted)
+{
+	const struct region *from = &plan->snapshot;
+	uint64_t answer;
+
+	plan->snapshot = *chip;
+	plan->wanted = wanted;
+	if (wanted)
+		answer = ream_update_plan(BLOCKS, from->image, sizeof(from->image), from->status,
+					  sizeof(from->status), wanted, BITMAP_SIZE, plan->steps,
+					  sizeof(plan->steps));
+	else
+		answer = ream_recovery_plan(BLOCKS, from->image, sizeof(from->image), from->status,
+					    sizeof(from->status), plan->steps, sizeof(plan->steps));
+	plan->count = ream_refusal(answer) == REAM_OK ? ream_step_count(answer) : 0;
+	return answer;
+}
+
+/* The page that step i of a plan writes. */
+static uint64_t plan_page(const struct plan *plan, unsigned i, uint8_t page[REAM_LARGE_PAGE_SIZE])
+{
+	const struct region *from = &plan->snapshot;
+
+	if (plan->wanted)
+		return ream_update_page(BLOCKS, from->image, sizeof(from->image), from->status, sizeof(from->status),
+					plan->wanted, BITMAP_SIZE, i, page, REAM_LARGE_PAGE_SIZE);
+	return ream_recovery_page(BLOCKS, from->image, sizeof(from->image), from->status, sizeof(from->status), i,
+				  page, REAM_LARGE_PAGE_SIZE);
+}
+
+/* Carries out step i of a plan on the chip. */
+static uint64_t plan_step(const struct plan *plan, unsigned i, struct region *chip)
+{
+	const struct ream_step step = ream_step_get(plan->steps + REAM_STEP_SIZE * i);
+	const unsigned place = (step.block - (BLOCKS - REAM_REGION_BLOCKS)) * PAGES + step.page;
+	uint8_t page[REAM_LARGE_PAGE_SIZE];
+	uint64_t answer;
+
+	if (step.kind == REAM_ERASE) {
+		printf("  step %u: erase block %u\n", i, step.block);
+		memset(chip->image + place * REAM_LARGE_PAGE_SIZE, 0xFF, PAGES * REAM_LARGE_PAGE_SIZE);
+		return REAM_OK;
+	}
+	printf("  step %u: write page %u of block %u\n", i, step.page, step.block);
+	answer = plan_page(plan, i, page);
+	if (ream_refusal(answer) == REAM_OK)
+		memcpy(chip->image + place * REAM_LARGE_PAGE_SIZE, page, sizeof(page));
+	return answer;
+}
+
+/* Plans an update to `wanted`, or a recovery where that is null, and carries out its steps up to the end or
+ * to where power fails. */
+static int carry_out(struct region *chip, const uint8_t *wanted, unsigned power)
+{
+	struct plan plan;
+	uint64_t answer = plan_make(&plan, chip, wanted);
+
+	for (unsigned i = 0; i < plan.count && i < power && ream_refusal(answer) == REAM_OK; i++)
+		answer = plan_step(&plan, i, chip);
+	if (ream_refusal(answer) == REAM_OK)
+		return EXIT_SUCCESS;
+	print_refusal("carrying out a plan", answer);
+	return EXIT_FAILURE;
+}
+
+/* Reads the table, and says which version it has, where it is and what it tells of a block. */
+static unsigned read_table(const struct region *chip, uint8_t bitmap[BITMAP_SIZE], unsigned block)
+{
+	const uint64_t answer = ream_table_read(BLOCKS, chip->image, sizeof(chip->image), chip->status,
+						sizeof(chip->status), bitmap, BITMAP_SIZE);
+
+	if (ream_refusal(answer) == REAM_OK)
+		printf("table read: version %u, primary in block %u, mirror in block %u; entry of block %u is %u\n",
+		       ream_version(answer), ream_primary_block(answer), ream_mirror_block(answer), block,
+		       ream_entry_get(bitmap, block));
+	else
+		print_refusal("table read", answer);
+	return ream_refusal(answer);
+}
+
+/* A page of the first table as a maker puts it on the chip: all blocks good. */
+static void lay_out_page(uint8_t *page, const char signature[4], uint8_t version)
 {
 	memset(page, 0xFF, REAM_LARGE_PAGE_SIZE);
-	memcpy(page, bitmap, BITMAP_SIZE);
 	memcpy(page + REAM_LARGE_DATA_SIZE + 14, signature, 4);
 	page[REAM_LARGE_DATA_SIZE + 18] = version;
 }
 
-static void print_plan(uint64_t answer, const uint8_t *steps)
-{
-	printf("  version %u, %u steps\n", ream_version(answer), ream_step_count(answer));
-	for (unsigned i = 0; i < ream_step_count(answer); i++) {
-		const struct ream_step step = ream_step_get(steps + REAM_STEP_SIZE * i);
-
-		if (step.kind == REAM_ERASE)
-			printf("  step %u: erase block %u\n", i, step.block);
-		else
-			printf("  step %u: write page %u of block %u\n", i, step.page, step.block);
-	}
-}
-
 static int large_chip(void)
 {
-	uint8_t image[IMAGE_SIZE];
-	uint8_t status[REAM_REGION_BLOCKS] = { REAM_READ_WELL, REAM_READ_WELL, REAM_READ_WELL, REAM_READ_WELL };
+	struct region chip;
 	uint8_t bitmap[BITMAP_SIZE];
-	uint8_t steps[REAM_STEPS_SIZE];
-	uint64_t answer;
 
-	/* A settled pair, as the driver would read it from the chip: mirror and primary in the last two blocks. */
-	memset(bitmap, 0xFF, sizeof(bitmap));
-	memset(image, 0xFF, sizeof(image));
-	lay_out_page(image + 2 * REAM_LARGE_PAGE_SIZE, "1tbB", 5, bitmap);
-	lay_out_page(image + 3 * REAM_LARGE_PAGE_SIZE, "Bbt0", 5, bitmap);
-
-	answer = ream_table_read(BLOCKS, image, sizeof(image), status, sizeof(status), bitmap, sizeof(bitmap));
-	if (ream_refusal(answer) != REAM_OK) {
-		print_refusal("ream_table_read", answer);
+	/* A settled pair: mirror and primary in the last two blocks. */
+	memset(chip.image, 0xFF, sizeof(chip.image));
+	memset(chip.status, REAM_READ_WELL, sizeof(chip.status));
+	lay_out_page(chip.image + 2 * REAM_LARGE_PAGE_SIZE, "1tbB", 5);
+	lay_out_page(chip.image + 3 * REAM_LARGE_PAGE_SIZE, "Bbt0", 5);
+	if (read_table(&chip, bitmap, 17) != REAM_OK)
 		return EXIT_FAILURE;
-	}
-	printf("table read: version %u, primary in block %u, mirror in block %u\n", ream_version(answer),
-	       ream_primary_block(answer), ream_mirror_block(answer));
 
 	/* Block 17 went bad in use: the table read, with that entry set, is the one wanted. */
+	printf("update, block 17 late:\n");
 	ream_entry_set(bitmap, 17, REAM_ENTRY_LATE);
-	answer = ream_update_plan(BLOCKS, image, sizeof(image), status, sizeof(status), bitmap, sizeof(bitmap),
-				  steps, sizeof(steps));
-	if (ream_refusal(answer) != REAM_OK) {
-		print_refusal("ream_update_plan", answer);
+	if (carry_out(&chip, bitmap, UINT_MAX) != EXIT_SUCCESS || read_table(&chip, bitmap, 17) != REAM_OK)
 		return EXIT_FAILURE;
-	}
-	printf("update planned, block 17 late:\n");
-	print_plan(answer, steps);
 
-	/* Power fails after two steps: the primary is new, the mirror old. Recovery brings the mirror up to it. */
-	lay_out_page(image + 3 * REAM_LARGE_PAGE_SIZE, "Bbt0", 6, bitmap);
-	answer = ream_recovery_plan(BLOCKS, image, sizeof(image), status, sizeof(status), steps, sizeof(steps));
-	if (ream_refusal(answer) != REAM_OK) {
-		print_refusal("ream_recovery_plan", answer);
+	/* So did block 18, but power fails after two steps: the primary is new, the mirror still old. */
+	printf("update, block 18 late, power cut after step 1:\n");
+	ream_entry_set(bitmap, 18, REAM_ENTRY_LATE);
+	if (carry_out(&chip, bitmap, 2) != EXIT_SUCCESS || read_table(&chip, bitmap, 18) != REAM_NOT_SETTLED)
 		return EXIT_FAILURE;
-	}
-	printf("recovery planned, power cut after step 1:\n");
-	print_plan(answer, steps);
+
+	/* A recovery brings the mirror up to the primary. */
+	printf("recovery:\n");
+	if (carry_out(&chip, NULL, UINT_MAX) != EXIT_SUCCESS || read_table(&chip, bitmap, 18) != REAM_OK)
+		return EXIT_FAILURE;
 	return EXIT_SUCCESS;
 }
 

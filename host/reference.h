@@ -31,4 +31,11 @@ uint64_t ref_update_plan(uint64_t n, const uint8_t *image, size_t image_len, con
 uint64_t ref_recovery_plan(uint64_t n, const uint8_t *image, size_t image_len, const uint8_t *status,
 			   size_t status_len, uint8_t *steps, size_t steps_len);
 
+uint64_t ref_update_page(uint64_t n, const uint8_t *image, size_t image_len, const uint8_t *status,
+			 size_t status_len, const uint8_t *wanted, size_t wanted_len, uint64_t step,
+			 uint8_t *page, size_t page_len);
+
+uint64_t ref_recovery_page(uint64_t n, const uint8_t *image, size_t image_len, const uint8_t *status,
+			   size_t status_len, uint64_t step, uint8_t *page, size_t page_len);
+
 #endif

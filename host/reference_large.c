@@ -2,9 +2,9 @@
  * The large chip, straight from document 01, in its order and its words, as reference.c has the small page.
  * Nothing here is shared with the library, not even its header.
  *
- * Reading a table and planning an update are the benchmark's yardstick besides, so they do their work as a
- * C programmer would: bitmaps are compared by memcmp and copied by memcpy, a page's part at a time, and the
- * update rule is a plain loop over bytes, four entries at a time.
+ * Reading a table, planning an update and its page images are the benchmark's yardstick besides, so they do
+ * their work as a C programmer would: bitmaps are compared by memcmp and copied by memcpy, a page's part at a
+ * time, and the update rule is a plain loop over bytes, four entries at a time.
  */
 #include "reference.h"
 
@@ -99,10 +99,10 @@ static size_t part_len(const struct region *region, size_t page)
 enum kind { PRIMARY, MIRROR };
 
 /* "in OOB 14-17 its signature, primary 42 62 74 30, mirror 31 74 62 42" */
+static const uint8_t signature[2][4] = { { 0x42, 0x62, 0x74, 0x30 }, { 0x31, 0x74, 0x62, 0x42 } };
+
 static bool has_signature(const uint8_t *oob, enum kind kind)
 {
-	static const uint8_t signature[2][4] = { { 0x42, 0x62, 0x74, 0x30 }, { 0x31, 0x74, 0x62, 0x42 } };
-
 	return memcmp(oob + 14, signature[kind], 4) == 0;
 }
 
@@ -344,7 +344,31 @@ static enum refusal recovery_judge(const struct region *region, struct plan *pla
 	return ANSWERED;
 }
 
-/* ---- the entries. Order of refusals: N, then lengths, then status bytes, then 8, 7, 9, then 10 or 11. */
+/* ---- page images */
+
+/* The page that a write puts down: its part of the table, where "the rest of the last page is written FF"; "in
+ * OOB 14-17 its signature, and in OOB 18 its version"; in OOB 0-13 "images carry FF", "and in 19-63". */
+static void page_lay_out(const struct region *region, const struct plan *plan, const struct step *step,
+			 uint8_t *page)
+{
+	memset(page, 0xFF, PAGE);
+	memcpy(page, plan->table + step->page * DATA, part_len(region, step->page));
+	memcpy(page + DATA + 14, signature[step->copy], 4);
+	page[DATA + 18] = plan->version;
+}
+
+/* "Steps are numbered from 0." "A step number past the plan's end, or of an erase": refusal 2, which comes
+ * last. */
+static enum refusal page_image(const struct region *region, const struct plan *plan, uint64_t number, uint8_t *page)
+{
+	if (number >= plan->count || plan->step[number].kind == ERASE)
+		return OUT_OF_RANGE;
+	page_lay_out(region, plan, &plan->step[number], page);
+	return ANSWERED;
+}
+
+/* ---- the entries. Order of refusals: N, then lengths, then status bytes, then 8, 7, 9, then 10 or 11, and
+ * last the step's number. */
 
 /* The first three of these. `others_fit`: are the lengths of the buffers beside image and status right? */
 static enum refusal arguments_refusal(const struct region *region, size_t image_len, size_t status_len,
@@ -357,6 +381,24 @@ static enum refusal arguments_refusal(const struct region *region, size_t image_
 	if (has_bad_status(region))
 		return OUT_OF_RANGE;
 	return ANSWERED;
+}
+
+/* Every refusal but that of a step's number, or the plan of an update. */
+static enum refusal update_planned(const struct region *region, size_t image_len, size_t status_len,
+				   bool others_fit, const uint8_t *wanted, struct plan *plan)
+{
+	const enum refusal refusal = arguments_refusal(region, image_len, status_len, others_fit);
+
+	return refusal != ANSWERED ? refusal : update_judge(region, wanted, plan);
+}
+
+/* The same of a recovery. */
+static enum refusal recovery_planned(const struct region *region, size_t image_len, size_t status_len,
+				     bool others_fit, struct plan *plan)
+{
+	const enum refusal refusal = arguments_refusal(region, image_len, status_len, others_fit);
+
+	return refusal != ANSWERED ? refusal : recovery_judge(region, plan);
 }
 
 /* A plan's steps, four bytes each, and its answer: version in bits 8-15, number of steps in bits 16-23. */
@@ -420,16 +462,12 @@ uint64_t ref_update_plan(uint64_t n, const uint8_t *image, size_t image_len, con
 			 size_t steps_len)
 {
 	const struct region region = { n, pages_of(n), image, status };
-	enum refusal refusal = arguments_refusal(&region, image_len, status_len,
-						 wanted_len == n / 4 && steps_len == STEPS_LEN);
+	const bool others_fit = wanted_len == n / 4 && steps_len == STEPS_LEN;
 	struct plan plan;
+	const enum refusal refusal = update_planned(&region, image_len, status_len, others_fit, wanted, &plan);
 
 	if (refusal != ANSWERED)
 		return refusal;
-	refusal = update_judge(&region, wanted, &plan);
-	if (refusal != ANSWERED)
-		return refusal;
-
 	return plan_write(&plan, steps);
 }
 
@@ -437,14 +475,37 @@ uint64_t ref_recovery_plan(uint64_t n, const uint8_t *image, size_t image_len, c
 			   size_t status_len, uint8_t *steps, size_t steps_len)
 {
 	const struct region region = { n, pages_of(n), image, status };
-	enum refusal refusal = arguments_refusal(&region, image_len, status_len, steps_len == STEPS_LEN);
 	struct plan plan;
+	const enum refusal refusal = recovery_planned(&region, image_len, status_len, steps_len == STEPS_LEN, &plan);
 
 	if (refusal != ANSWERED)
 		return refusal;
-	refusal = recovery_judge(&region, &plan);
-	if (refusal != ANSWERED)
-		return refusal;
-
 	return plan_write(&plan, steps);
+}
+
+/* "Page images, 2,112 bytes each, are asked for by step number from the snapshot the plan was made from." */
+uint64_t ref_update_page(uint64_t n, const uint8_t *image, size_t image_len, const uint8_t *status,
+			 size_t status_len, const uint8_t *wanted, size_t wanted_len, uint64_t step,
+			 uint8_t *page, size_t page_len)
+{
+	const struct region region = { n, pages_of(n), image, status };
+	const bool others_fit = wanted_len == n / 4 && page_len == PAGE;
+	struct plan plan;
+	const enum refusal refusal = update_planned(&region, image_len, status_len, others_fit, wanted, &plan);
+
+	if (refusal != ANSWERED)
+		return refusal;
+	return page_image(&region, &plan, step, page);
+}
+
+uint64_t ref_recovery_page(uint64_t n, const uint8_t *image, size_t image_len, const uint8_t *status,
+			   size_t status_len, uint64_t step, uint8_t *page, size_t page_len)
+{
+	const struct region region = { n, pages_of(n), image, status };
+	struct plan plan;
+	const enum refusal refusal = recovery_planned(&region, image_len, status_len, page_len == PAGE, &plan);
+
+	if (refusal != ANSWERED)
+		return refusal;
+	return page_image(&region, &plan, step, page);
 }

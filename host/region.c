@@ -25,6 +25,16 @@ size_t region_part_len(const struct region *region, unsigned page)
 	return rest < PAGE_DATA ? rest : PAGE_DATA;
 }
 
+const uint8_t *region_page(const struct region *region, unsigned block, unsigned page)
+{
+	return region->image + (size_t)(block * region->pages + page) * PAGE_BYTES;
+}
+
+bool region_reads_well(const struct region *region, unsigned block, unsigned page)
+{
+	return region->status[block * region->pages + page] == 0;
+}
+
 uint8_t *region_data(struct region *region, unsigned block, unsigned page)
 {
 	return region->image + (size_t)(block * region->pages + page) * PAGE_BYTES;
@@ -56,20 +66,46 @@ void region_erase(struct region *region, unsigned block)
 	memset(region_status(region, block, 0), 0, region->pages);
 }
 
+bool region_signed(const struct region *region, unsigned block, unsigned page, enum kind kind)
+{
+	return memcmp(region_page(region, block, page) + PAGE_DATA + SIGNATURE, signatures[kind], 4) == 0;
+}
+
+bool region_good(const struct region *region, unsigned block, enum kind kind)
+{
+	const uint8_t version = region_page(region, block, 0)[PAGE_DATA + VERSION];
+
+	for (unsigned page = 0; page < region->pages; page++)
+		if (!region_reads_well(region, block, page) || !region_signed(region, block, page, kind) ||
+		    region_page(region, block, page)[PAGE_DATA + VERSION] != version)
+			return false;
+	return true;
+}
+
+bool region_bad(const struct region *region, unsigned block)
+{
+	return region_reads_well(region, block, 0) && !region_signed(region, block, 0, PRIMARY) &&
+	       !region_signed(region, block, 0, MIRROR) && region_page(region, block, 0)[PAGE_DATA] == 0;
+}
+
 void region_sign(struct region *region, unsigned block, unsigned page, enum kind kind)
 {
 	memcpy(region_oob(region, block, page) + SIGNATURE, signatures[kind], 4);
 }
 
+void region_lay_out(const struct region *region, unsigned page, enum kind kind, uint8_t version,
+		    const uint8_t *table, uint8_t *bytes)
+{
+	memset(bytes, 0xFF, PAGE_BYTES);
+	memcpy(bytes, table + (size_t)page * PAGE_DATA, region_part_len(region, page));
+	memcpy(bytes + PAGE_DATA + SIGNATURE, signatures[kind], 4);
+	bytes[PAGE_DATA + VERSION] = version;
+}
+
 void region_write(struct region *region, unsigned block, unsigned page, enum kind kind, uint8_t version,
 		  const uint8_t *table)
 {
-	uint8_t *data = region_data(region, block, page);
-
-	memset(data, 0xFF, PAGE_BYTES);
-	memcpy(data, table + (size_t)page * PAGE_DATA, region_part_len(region, page));
-	region_sign(region, block, page, kind);
-	region_oob(region, block, page)[VERSION] = version;
+	region_lay_out(region, page, kind, version, table, region_data(region, block, page));
 	*region_status(region, block, page) = 0;
 }
 

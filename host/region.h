@@ -5,6 +5,7 @@
 #ifndef REGION_H
 #define REGION_H
 
+#include <stdbool.h>
 #include <stddef.h>
 #include <stdint.h>
 
@@ -37,6 +38,11 @@ size_t region_status_len(const struct region *region);
 /* How many bytes of the bitmap a page holds. */
 size_t region_part_len(const struct region *region, unsigned page);
 
+/* A page's 2,112 bytes as they are. */
+const uint8_t *region_page(const struct region *region, unsigned block, unsigned page);
+
+bool region_reads_well(const struct region *region, unsigned block, unsigned page);
+
 /* A page's data, its OOB and its status byte. */
 uint8_t *region_data(struct region *region, unsigned block, unsigned page);
 uint8_t *region_oob(struct region *region, unsigned block, unsigned page);
@@ -48,10 +54,21 @@ void region_begin(struct region *region, uint64_t n);
 /* Makes all pages of a block blank. */
 void region_erase(struct region *region, unsigned block);
 
+/* Does a page carry the signature of a kind? */
+bool region_signed(const struct region *region, unsigned block, unsigned page, enum kind kind);
+
+/* Document 01's words: is a block a good copy of a kind? Is it readable as bad? */
+bool region_good(const struct region *region, unsigned block, enum kind kind);
+bool region_bad(const struct region *region, unsigned block);
+
 /* Sets the signature of a page. */
 void region_sign(struct region *region, unsigned block, unsigned page, enum kind kind);
 
-/* Writes a page of a copy of `table`, an array of N/4 bytes. */
+/* The 2,112 bytes of a page of a copy of `table`, an array of N/4 bytes, with FF where nothing is set down. */
+void region_lay_out(const struct region *region, unsigned page, enum kind kind, uint8_t version,
+		    const uint8_t *table, uint8_t *bytes);
+
+/* Writes such a page. */
 void region_write(struct region *region, unsigned block, unsigned page, enum kind kind, uint8_t version,
 		  const uint8_t *table);
 

@@ -22,7 +22,7 @@ void cast_draw_spoilt(struct test *test, struct cast *cast)
 	const unsigned pages = ream_table_pages(cast->n);
 
 	cast->page = (unsigned)draw_below(&test->state, pages);
-	cast->way = (enum way)draw_below(&test->state, pages == 1 ? OTHER_SIGNATURE : WAYS);
+	cast->way = drawn_way(&test->state, pages);
 }
 
 static bool is_good(enum role role, enum kind kind)
@@ -40,27 +40,8 @@ static void spoil(struct test *test, struct region *region, unsigned block, enum
 		  const struct cast *cast)
 {
 	const bool first_unsigned = cast->page == 0 && (cast->way == BLANKED || cast->way == WRONG_SIGNATURE);
-	uint8_t *oob = region_oob(region, block, cast->page);
 
-	switch (cast->way) {
-	case UNREADABLE:
-		*region_status(region, block, cast->page) = 1;
-		break;
-	case BLANKED:
-		memset(region_data(region, block, cast->page), 0xFF, PAGE_BYTES);
-		break;
-	case WRONG_SIGNATURE:
-		oob[SIGNATURE + draw_below(&test->state, 4)] ^= (uint8_t)(1 << draw_below(&test->state, 8));
-		break;
-	case OTHER_SIGNATURE:
-		region_sign(region, block, cast->page, kind == PRIMARY ? MIRROR : PRIMARY);
-		break;
-	case OTHER_VERSION:
-		oob[VERSION] ^= (uint8_t)(1 + draw_below(&test->state, 255));
-		break;
-	case WAYS:
-		break;
-	}
+	drawn_spoil(&test->state, region, block, cast->page, kind, cast->way);
 	if (!first_unsigned && draw_below(&test->state, 2) == 0)
 		region_oob(region, block, 0)[0] = 0;
 }
@@ -127,63 +108,52 @@ static void play(struct test *test, struct scene *scene, unsigned block, const s
 
 void scene_rebuild(struct test *test, struct scene *scene, const struct cast *cast)
 {
+	scene->step = 1;
 	region_begin(&scene->region, cast->n);
 	for (unsigned block = 0; block < REGION_BLOCKS; block++)
 		play(test, scene, block, cast);
-}
-
-/* A bitmap of which most entries are good, as in a chip's life; one in four is anything. */
-static void draw_table(struct test *test, uint8_t *table, uint64_t n)
-{
-	if (draw_below(&test->state, 4) == 0) {
-		draw_bytes(&test->state, table, (size_t)n / 4);
-		return;
-	}
-	memset(table, 0xFF, (size_t)n / 4);
-	for (uint64_t i = draw_below(&test->state, 8); i > 0; i--)
-		ream_entry_set(table, draw_below(&test->state, n), (unsigned)draw_below(&test->state, 4));
 }
 
 void scene_build(struct test *test, struct scene *scene, const struct cast *cast)
 {
 	const size_t len = (size_t)cast->n / 4;
 
-	draw_table(test, scene->table[PRIMARY], cast->n);
+	drawn_table(&test->state, scene->table[PRIMARY], cast->n);
 	memcpy(scene->table[MIRROR], scene->table[PRIMARY], len);
 	if (!cast->equal)
 		scene->table[MIRROR][draw_below(&test->state, len)] ^= (uint8_t)(1 << draw_below(&test->state, 8));
-	draw_table(test, scene->wanted, cast->n);
+	drawn_table(&test->state, scene->wanted, cast->n);
 	memset(scene->marks, 0xFF, (size_t)cast->n);
 	scene->marks[draw_below(&test->state, cast->n)] = 0;
 	scene_rebuild(test, scene, cast);
 }
 
+void scene_build_changing(struct test *test, struct scene *scene, const struct cast *cast)
+{
+	scene_build(test, scene, cast);
+	scene->table[PRIMARY][0] = scene->table[MIRROR][0] = 0xFF;
+	scene->wanted[0] = 0x27;
+	if (!cast->equal)
+		scene->table[MIRROR][1] = (uint8_t)~scene->table[PRIMARY][1];
+	scene_rebuild(test, scene, cast);
+}
+
 void scene_stir(struct test *test, struct scene *scene)
 {
-	struct region *region = &scene->region;
-
-	for (unsigned block = 0; block < REGION_BLOCKS; block++) {
-		for (unsigned page = 0; page < region->pages; page++) {
-			uint8_t *data = region_data(region, block, page);
-			uint8_t *oob = region_oob(region, block, page);
-			const size_t part = region_part_len(region, page);
-
-			if (*region_status(region, block, page) == 1) {
-				draw_bytes(&test->state, data, PAGE_BYTES);
-				continue;
-			}
-			draw_bytes(&test->state, data + part, PAGE_DATA - part);
-			draw_bytes(&test->state, oob + 1, SIGNATURE - 1);
-			draw_bytes(&test->state, oob + VERSION + 1, PAGE_OOB - VERSION - 1);
-			if (page > 0)
-				oob[0] = (uint8_t)draw(&test->state);
-			else if (oob[0] != 0)
-				oob[0] = (uint8_t)(1 + draw_below(&test->state, 255));
-		}
-	}
+	drawn_stir(&test->state, &scene->region);
 }
 
 /* ---- calls */
+
+bool takes_wanted(enum entry_index index)
+{
+	return index == UPDATE_PLAN || index == UPDATE_PAGE;
+}
+
+bool gives_page(enum entry_index index)
+{
+	return index == UPDATE_PAGE || index == RECOVERY_PAGE;
+}
 
 void scene_set_up(struct test *test, enum entry_index index, const void *inputs)
 {
@@ -197,8 +167,10 @@ void scene_set_up(struct test *test, enum entry_index index, const void *inputs)
 	}
 	call_lend(test, 0, region->image, region_image_len(region));
 	call_lend(test, 1, region->status, region_status_len(region));
-	if (index == UPDATE_PLAN)
+	if (takes_wanted(index))
 		call_lend(test, 2, scene->wanted, (size_t)region->n / 4);
+	if (gives_page(index))
+		test->call.number[1] = scene->step;
 }
 
 uint64_t scene_call(struct test *test, enum entry_index index, const struct scene *scene)
@@ -375,6 +347,72 @@ static void expect_plan(struct test *test, const struct region *region, const st
 	       "bytes past the plan's end keep what they held");
 }
 
+/* A step that is past the end of every plan: close to it, or one that a cut to fewer bits would take for a
+ * write. */
+static uint64_t draw_step_past(struct test *test)
+{
+	static const uint64_t past[] = {
+		10, 11, 15, 16, 64, 256, 65536, (uint64_t)1 << 32, (uint64_t)1 << 63, UINT64_MAX - 9,
+	};
+
+	return past[draw_below(&test->state, sizeof(past) / sizeof(past[0]))] + draw_below(&test->state, 10);
+}
+
+static void expect_no_page(struct test *test, const struct scene *scene, enum entry_index index)
+{
+	scene_call(test, index, scene);
+	expect_answer(test, REAM_RANGE, "a step past the plan's end, or of an erase, is refused");
+}
+
+static void expect_page(struct test *test, const struct scene *scene, enum entry_index index, const uint8_t *page)
+{
+	scene_call(test, index, scene);
+	expect_answer(test, REAM_OK, "a page is given");
+	expect(test, memcmp(call_left(test, entries[index].buffers - 1), page, PAGE_BYTES) == 0, "the page");
+}
+
+/* The pages of this plan, which makes scene->made, step by step. */
+static void expect_pages(struct test *test, struct scene *scene, enum entry_index index, const struct plan *plan)
+{
+	uint8_t bytes[PAGE_BYTES];
+
+	scene->step = 0;
+	for (unsigned copy = 0; copy < plan->copies; copy++) {
+		expect_no_page(test, scene, index);
+		scene->step++;
+		for (unsigned page = 0; page < scene->region.pages; page++) {
+			region_lay_out(&scene->region, page, plan->kind[copy], plan->version, scene->made, bytes);
+			expect_page(test, scene, index, bytes);
+			scene->step++;
+		}
+	}
+	expect_no_page(test, scene, index);
+	scene->step = draw_step_past(test);
+	expect_no_page(test, scene, index);
+}
+
+/* The refusal of a plan is that of its pages too, whatever the step. */
+static void expect_pages_refused(struct test *test, struct scene *scene, enum entry_index index,
+				 unsigned refusal)
+{
+	scene->step = draw_below(&test->state, 2) == 0 ? draw_below(&test->state, 11) : draw_step_past(test);
+	scene_call(test, index, scene);
+	expect_answer(test, refusal, "the refusal of a page");
+}
+
+/* The last call planned: it gave this plan, or was refused with this number. So it is with the pages. */
+static void expect_planned(struct test *test, struct scene *scene, enum entry_index page_index, unsigned refusal,
+			   const struct plan *plan)
+{
+	if (refusal == REAM_OK) {
+		expect_plan(test, &scene->region, plan);
+		expect_pages(test, scene, page_index, plan);
+	} else {
+		expect_answer(test, refusal, "the refusal of a plan");
+		expect_pages_refused(test, scene, page_index, refusal);
+	}
+}
+
 /* Gives the plan there is to carry out: an update's of a settled pair, otherwise recovery's. */
 static struct plan expect_outcome(struct test *test, struct scene *scene, const struct cast *cast,
 				  const struct outcome *outcome)
@@ -388,18 +426,12 @@ static struct plan expect_outcome(struct test *test, struct scene *scene, const 
 		expect_answer(test, outcome->reading, "the refusal of reading");
 
 	scene_call(test, RECOVERY_PLAN, scene);
-	if (outcome->recovery == REAM_OK)
-		expect_plan(test, &scene->region, &plan);
-	else
-		expect_answer(test, outcome->recovery, "the refusal of recovery");
+	expect_planned(test, scene, RECOVERY_PAGE, outcome->recovery, &plan);
 
 	scene_call(test, UPDATE_PLAN, scene);
-	if (outcome->reading == REAM_OK) {
+	if (outcome->reading == REAM_OK)
 		plan = update_of(scene, cast, outcome);
-		expect_plan(test, &scene->region, &plan);
-	} else {
-		expect_answer(test, outcome->reading, "the refusal of an update");
-	}
+	expect_planned(test, scene, UPDATE_PAGE, outcome->reading, &plan);
 	return plan;
 }
 

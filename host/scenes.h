@@ -3,8 +3,8 @@
  *
  * A cast says what each block of a region is to be and how the two kinds' versions and tables stand to each
  * other. scene_build() makes such a region, with the bytes that are left open drawn. expect_cast() calls the
- * region's three entries on it and expects the outcome that follows from the cast alone, with no look at a
- * byte of the region: a second opinion beside the reference's.
+ * region's entries on it and expects the outcome that follows from the cast alone, with no look at a byte of
+ * the region: a second opinion beside the reference's.
  */
 #ifndef SCENES_H
 #define SCENES_H
@@ -13,6 +13,7 @@
 #include <stdint.h>
 
 #include "calls.h"
+#include "drawn.h"
 #include "region.h"
 
 /* What a block is to be. */
@@ -28,10 +29,6 @@ enum role {
 	SPOILT_MIRROR,
 	ROLES,
 };
-
-/* How a page is spoilt. The last two are for copies of several pages: they turn a single page into a good
- * copy of another kind or version. */
-enum way { UNREADABLE, BLANKED, WRONG_SIGNATURE, OTHER_SIGNATURE, OTHER_VERSION, WAYS };
 
 struct cast {
 	uint64_t n;
@@ -49,6 +46,7 @@ struct scene {
 	uint8_t marks[MOST_BLOCKS];
 	uint8_t table[KINDS][MOST_BITMAP];	/* what the copies of each kind hold */
 	uint8_t made[MOST_BITMAP];		/* what a plan has to make of them */
+	uint64_t step;				/* the step whose page is asked for */
 };
 
 /* A cast of a settled pair in these blocks, the others blank. */
@@ -60,8 +58,16 @@ void cast_draw_spoilt(struct test *test, struct cast *cast);
 /* Makes a region of this cast, with tables, wanted bitmap and marks drawn. */
 void scene_build(struct test *test, struct scene *scene, const struct cast *cast);
 
-/* The region of this cast anew, from the tables as they are. */
+/* The same, with a wanted bitmap that changes an entry. */
+void scene_build_changing(struct test *test, struct scene *scene, const struct cast *cast);
+
+/* The region of this cast anew, from the tables as they are. The step is 1: of a plan with steps, the first
+ * write. */
 void scene_rebuild(struct test *test, struct scene *scene, const struct cast *cast);
+
+/* Does an entry take a wanted bitmap? Does it take a step's number, and give a page? */
+bool takes_wanted(enum entry_index index);
+bool gives_page(enum entry_index index);
 
 /* Draws anew every byte of the region that must not count. */
 void scene_stir(struct test *test, struct scene *scene);
@@ -75,7 +81,8 @@ uint64_t scene_call(struct test *test, enum entry_index index, const struct scen
 /* Does an update change anything: is an entry good in `old` and not good in `wanted`? */
 bool update_changes(const uint8_t *old, const uint8_t *wanted, uint64_t n);
 
-/* The outcome of each of the region's three entries. */
+/* The outcome of each of the region's entries. The pages of a plan's steps are asked for one after the other,
+ * and a few past its end. */
 void expect_cast(struct test *test, struct scene *scene, const struct cast *cast);
 
 /* The same, and then the plans are carried out, with a table of the test's own making: the pair is settled

@@ -4,7 +4,8 @@
  *
  * Agreement with the reference is not all. Regions are made to order (scenes.h), and the outcome that
  * document 01 fixes for each in words is checked by itself: version, blocks and table of a settled pair, each
- * step of a plan, each refusal and their order, entries that an update must keep, bytes that must not count.
+ * step of a plan and its page, each refusal and their order, entries that an update must keep, bytes that must
+ * not count.
  */
 #include "tests.h"
 
@@ -28,7 +29,9 @@ enum { SIZES = sizeof(sizes) / sizeof(sizes[0]) };
 /* One for each P, with last pages full, almost full and almost empty. */
 static const uint64_t size_by_pages[MOST_PAGES] = { 8, 8196, 24576, 32764 };
 
-static const enum entry_index region_entries[] = { TABLE_READ, UPDATE_PLAN, RECOVERY_PLAN };
+static const enum entry_index region_entries[] = {
+	TABLE_READ, UPDATE_PLAN, RECOVERY_PLAN, UPDATE_PAGE, RECOVERY_PAGE,
+};
 
 enum { REGION_ENTRIES = sizeof(region_entries) / sizeof(region_entries[0]) };
 
@@ -113,15 +116,12 @@ static void try_size_examples(struct test *test, struct scene *scene)
 		const struct cast cast = cast_settled(i == 0 ? 8192 : 8196, 0, 1, 9);
 
 		expect(test, ream_table_pages(cast.n) == pages[i], "8,192 blocks fill one page, 8,196 two");
-		scene_build(test, scene, &cast);
-		memset(scene->wanted, 0, sizeof(scene->wanted));
-		scene->table[PRIMARY][0] = scene->table[MIRROR][0] = 0xFF;
-		scene_rebuild(test, scene, &cast);
+		scene_build_changing(test, scene, &cast);
 		scene_call(test, UPDATE_PLAN, scene);
 		expect_answer(test, (uint64_t)10 << 8 | (2 * pages[i] + 2) << 16, "an update has 2P + 2 steps");
 	}
 	for (unsigned i = 0; i < 3; i++) {
-		for (unsigned k = FIRST_BITMAP; k <= RECOVERY_PLAN; k++) {
+		for (unsigned k = FIRST_BITMAP; k < ENTRIES; k++) {
 			scene_set_up(test, (enum entry_index)k, scene);
 			test->call.number[0] = refused[i];
 			call_compare(test);
@@ -216,11 +216,48 @@ static void try_null_pointers(struct test *test, struct scene *scene)
 	       "with no null pointer the checked functions are the entries");
 }
 
+/* The same of the functions that give pages. */
+static void try_null_pages(struct test *test, struct scene *scene)
+{
+	struct cast cast = cast_settled(8, 1, 0, 200);
+	const uint8_t *image = scene->region.image, *status = scene->region.status, *wanted = scene->wanted;
+	uint8_t page[2112], asked[2112];
+	bool refused;
+
+	test->trying = "null pointers in asking for pages";
+	memset(scene->table, 0xFF, sizeof(scene->table));
+	memcpy(scene->wanted, "\x27\xFF", 2);
+	scene_rebuild(test, scene, &cast);
+	memset(page, 0x5A, sizeof(page));
+	memset(asked, 0x5A, sizeof(asked));
+	refused = ream_update_page_checked(8, NULL, 8448, status, 4, wanted, 2, 1, page, 2112) == REAM_LENGTH &&
+		  ream_update_page_checked(8, image, 8448, NULL, 4, wanted, 2, 1, page, 2112) == REAM_LENGTH &&
+		  ream_update_page_checked(8, image, 8448, status, 4, NULL, 2, 1, page, 2112) == REAM_LENGTH &&
+		  ream_update_page_checked(8, image, 8448, status, 4, wanted, 2, 1, NULL, 2112) == REAM_LENGTH &&
+		  ream_recovery_page_checked(8, NULL, 8448, status, 4, 1, page, 2112) == REAM_LENGTH &&
+		  ream_recovery_page_checked(8, image, 8448, NULL, 4, 1, page, 2112) == REAM_LENGTH &&
+		  ream_recovery_page_checked(8, image, 8448, status, 4, 1, NULL, 2112) == REAM_LENGTH;
+	expect(test, refused, "a null pointer is refused as a wrong length");
+	expect(test, ream_update_page_checked(9, NULL, 0, NULL, 0, NULL, 0, 1, NULL, 0) == REAM_RANGE &&
+	       ream_recovery_page_checked(9, NULL, 0, NULL, 0, 1, NULL, 0) == REAM_RANGE,
+	       "a wrong number of blocks is refused before a null pointer");
+	expect(test, memcmp(page, asked, sizeof(page)) == 0, "a call refused for a null pointer changes nothing");
+
+	region_lay_out(&scene->region, 0, MIRROR, 201, scene->wanted, asked);
+	expect(test, ream_update_page_checked(8, image, 8448, status, 4, wanted, 2, 3, page, 2112) == REAM_OK &&
+	       memcmp(page, asked, sizeof(page)) == 0, "with no null pointer an update's page is given");
+	cast.version[PRIMARY] = 201;
+	scene_rebuild(test, scene, &cast);
+	region_lay_out(&scene->region, 0, MIRROR, 201, scene->table[PRIMARY], asked);
+	expect(test, ream_recovery_page_checked(8, image, 8448, status, 4, 1, page, 2112) == REAM_OK &&
+	       memcmp(page, asked, sizeof(page)) == 0, "with no null pointer a recovery's page is given");
+}
+
 /* ---- numbers of blocks */
 
 static void try_numbers_of_blocks(struct test *test, struct scene *scene)
 {
-	for (unsigned i = FIRST_BITMAP; i <= RECOVERY_PLAN; i++) {
+	for (unsigned i = FIRST_BITMAP; i < ENTRIES; i++) {
 		const enum entry_index index = (enum entry_index)i;
 
 		test->trying = "numbers that are no number of blocks, lengths of another number";
@@ -241,7 +278,8 @@ static void try_numbers_of_blocks(struct test *test, struct scene *scene)
 			call_compare(test);
 			expect_answer(test, REAM_RANGE, "no number of blocks is refused");
 		}
-		/* all up to 64, those about a multiple of 1,024, and some between. All pages read well. */
+		/* all up to 64, those about a multiple of 1,024, and some between. All pages read well; where a page
+		 * is asked for there is no copy, so that the step's number is not looked at. */
 		test->trying = "numbers of blocks from 0 on";
 		for (uint64_t n = 0; n <= 33000; n++) {
 			if (n > 64 && n % 1024 > 8 && n % 13 != 0)
@@ -249,6 +287,8 @@ static void try_numbers_of_blocks(struct test *test, struct scene *scene)
 			call_begin_large(test, index, n);
 			if (index != FIRST_BITMAP)
 				memset(test->call.bytes[1], 0, test->call.len[1]);
+			if (gives_page(index))
+				memset(test->call.bytes[0], 0, test->call.len[0]);
 			call_compare(test);
 			expect(test, (ream_refusal(test->answer) == REAM_RANGE) == (n % 4 != 0 || n < 8 || n > 32768),
 			       "refusal 2 comes exactly with no number of blocks");
@@ -258,25 +298,49 @@ static void try_numbers_of_blocks(struct test *test, struct scene *scene)
 
 /* ---- lengths */
 
+/* A cast on which an entry has something to answer: of a recovery's pages there is none in a settled pair. */
+static struct cast cast_answered(uint64_t n, enum entry_index index)
+{
+	struct cast cast = cast_settled(n, 0, 3, 77);
+
+	if (index == RECOVERY_PAGE)
+		cast.version[PRIMARY]++;
+	return cast;
+}
+
 static void try_region_lengths(struct test *test, struct scene *scene)
 {
 	static const uint64_t n[] = { 8, 16388 };
 
 	for (unsigned size = 0; size < sizeof(n) / sizeof(n[0]); size++) {
-		struct cast cast = cast_settled(n[size], 0, 3, 77);
+		for (unsigned i = FIRST_BITMAP; i < ENTRIES; i++) {
+			const enum entry_index index = (enum entry_index)i;
+			struct cast cast = cast_answered(n[size], index);
 
-		for (unsigned i = FIRST_BITMAP; i <= RECOVERY_PLAN; i++) {
 			test->trying = "lengths, nothing else wrong";
-			cast.equal = true;
-			scene_build(test, scene, &cast);
-			try_lengths(test, (enum entry_index)i, scene_set_up, scene);
+			scene_build_changing(test, scene, &cast);
+			scene_call(test, index, scene);
+			expect(test, ream_refusal(test->answer) == REAM_OK, "nothing else is wrong");
+			try_lengths(test, index, scene_set_up, scene);
 			test->trying = "lengths, all else wrong too";
 			cast.equal = false;
 			scene_build(test, scene, &cast);
 			scene->region.status[size] = 2;
-			try_lengths(test, (enum entry_index)i, scene_set_up, scene);
+			scene->step = UINT64_MAX;
+			try_lengths(test, index, scene_set_up, scene);
 		}
 	}
+}
+
+/* The refusal of a call that is told n blocks and lent the settled region of a chip of `lent`. A recovery is
+ * lent no buffer of N/4 bytes, so the same P is enough; and of a settled pair it has no page. */
+static unsigned refusal_across(enum entry_index index, uint64_t n, uint64_t lent)
+{
+	const bool recovers = index == RECOVERY_PLAN || index == RECOVERY_PAGE;
+
+	if (n != lent && !(recovers && ream_table_pages(n) == ream_table_pages(lent)))
+		return REAM_LENGTH;
+	return index == RECOVERY_PAGE ? REAM_RANGE : REAM_OK;
 }
 
 /* The lengths that go with another number of blocks. */
@@ -286,18 +350,17 @@ static void try_lengths_of_other_sizes(struct test *test, struct scene *scene)
 	for (unsigned size = 0; size < SIZES; size++) {
 		const struct cast cast = cast_settled(sizes[size], 2, 3, 4);
 
-		scene_build(test, scene, &cast);
+		scene_build_changing(test, scene, &cast);
 		for (unsigned other = 0; other < SIZES; other++) {
-			for (unsigned i = FIRST_BITMAP; i <= RECOVERY_PLAN; i++) {
-				scene_set_up(test, (enum entry_index)i, scene);
+			for (unsigned i = FIRST_BITMAP; i < ENTRIES; i++) {
+				const enum entry_index index = (enum entry_index)i;
+
+				scene_set_up(test, index, scene);
 				test->call.number[0] = sizes[other];
 				call_compare(test);
-				/* recovery is lent no buffer of N/4 bytes, so the same P is enough */
-				if (other != size && (i != RECOVERY_PLAN ||
-						      ream_table_pages(sizes[other]) != scene->region.pages))
-					expect_answer(test, REAM_LENGTH, "another number's lengths are refused");
-				else
-					expect(test, ream_refusal(test->answer) == REAM_OK, "and its own are not");
+				expect(test, ream_refusal(test->answer) ==
+				       refusal_across(index, sizes[other], sizes[size]),
+				       "another number's lengths are refused, and its own are not");
 			}
 		}
 	}
@@ -440,6 +503,21 @@ static void try_damage(struct test *test, struct scene *scene)
 	}
 }
 
+/* A copy of a settled pair has lost one bit of a signature or of a version. `opposite`: the versions are 128
+ * apart then. */
+static void expect_one_bit(struct test *test, struct scene *scene, enum entry_index index, bool opposite)
+{
+	scene_call(test, index, scene);
+	if (opposite)
+		expect_answer(test, REAM_OPPOSITE, "the versions are opposite");
+	else if (index == RECOVERY_PLAN)
+		expect(test, ream_step_count(test->answer) == scene->region.pages + 1, "one copy is made anew");
+	else if (index == RECOVERY_PAGE)
+		expect_answer(test, REAM_OK, "and its first page is given");
+	else
+		expect_answer(test, REAM_NOT_SETTLED, "the pair is not settled");
+}
+
 /* Each bit of the signature and of the version, in each page of each copy: the pair is not settled. */
 static void try_header_bits(struct test *test, struct scene *scene)
 {
@@ -447,27 +525,37 @@ static void try_header_bits(struct test *test, struct scene *scene)
 	for (unsigned p = 0; p < MOST_PAGES; p++) {
 		const struct cast cast = cast_settled(size_by_pages[p], 1, 3, 100);
 
-		scene_build(test, scene, &cast);
+		scene_build_changing(test, scene, &cast);
 		for (unsigned page = 0; page <= p; page++) {
 			for (unsigned bit = 0; bit < 2 * 8 * 5; bit++) {
 				uint8_t *oob = region_oob(&scene->region, bit < 40 ? 1 : 3, page);
 
 				oob[SIGNATURE + bit % 40 / 8] ^= (uint8_t)(1 << bit % 8);
-				for (unsigned i = 0; i < REGION_ENTRIES; i++) {
-					const bool opposite = p == 0 && bit % 40 == 39;
-
-					scene_call(test, region_entries[i], scene);
-					if (opposite || region_entries[i] != RECOVERY_PLAN)
-						expect_answer(test, opposite ? REAM_OPPOSITE : REAM_NOT_SETTLED,
-							      "the pair is not settled");
-					else
-						expect(test, ream_step_count(test->answer) == p + 2,
-						       "one copy is made anew");
-				}
+				for (unsigned i = 0; i < REGION_ENTRIES; i++)
+					expect_one_bit(test, scene, region_entries[i], p == 0 && bit % 40 == 39);
 				oob[SIGNATURE + bit % 40 / 8] ^= (uint8_t)(1 << bit % 8);
 			}
 		}
 	}
+}
+
+/* The copies, of version 255, differ in byte i of the bitmap alone. */
+static void expect_merged(struct test *test, struct scene *scene, size_t i, uint8_t merged)
+{
+	const unsigned pages = scene->region.pages;
+
+	scene_call(test, RECOVERY_PLAN, scene);
+	expect_answer(test, 0 << 8 | (2 * pages + 2) << 16, "they are merged");
+	for (unsigned copy = 0; copy < KINDS; copy++) {
+		scene->step = copy * (pages + 1) + 1 + i / PAGE_DATA;
+		scene_call(test, RECOVERY_PAGE, scene);
+		expect_answer(test, REAM_OK, "the page of a merge is given");
+		expect(test, call_left(test, 2)[i % PAGE_DATA] == merged, "the page of a merge has the AND");
+	}
+	scene_call(test, UPDATE_PLAN, scene);
+	expect_answer(test, REAM_NOT_SETTLED, "different bitmaps are not settled");
+	scene_call(test, UPDATE_PAGE, scene);
+	expect_answer(test, REAM_NOT_SETTLED, "different bitmaps are not settled");
 }
 
 /* The copies differ in a single bit of the bitmap, at each byte. */
@@ -490,12 +578,8 @@ static void try_bitmap_bits(struct test *test, struct scene *scene)
 			*byte ^= (uint8_t)(1 << draw_below(&test->state, 8));
 			scene_call(test, TABLE_READ, scene);
 			expect_answer(test, REAM_NOT_SETTLED, "different bitmaps are not settled");
-			if (i % 8 == 0) {
-				scene_call(test, RECOVERY_PLAN, scene);
-				expect_answer(test, 0 << 8 | (2 * scene->region.pages + 2) << 16, "they are merged");
-				scene_call(test, UPDATE_PLAN, scene);
-				expect_answer(test, REAM_NOT_SETTLED, "different bitmaps are not settled");
-			}
+			if (i % 8 == 0)
+				expect_merged(test, scene, i, *byte & kept);
 			*byte = kept;
 		}
 	}
@@ -580,16 +664,18 @@ static void try_wanted(struct test *test, struct scene *scene, const struct cast
 static void try_all_bytes(struct test *test, struct scene *scene)
 {
 	const struct cast cast = cast_settled(8, 2, 0, 255);
+	const uint8_t *page;
 
 	test->trying = "all pairs of an old and a wanted byte";
 	scene_build(test, scene, &cast);
 	for (unsigned pair = 0; pair < 256 * 256; pair++) {
 		const unsigned byte = pair / 256 % 2;
 		const uint8_t old = (uint8_t)(pair / 256), wanted = (uint8_t)pair;
-		bool changes = false;
+		unsigned made = old;
 
 		for (unsigned k = 0; k < 8; k += 2)
-			changes |= (old >> k & 3) == 3 && (wanted >> k & 3) != 3;
+			if ((old >> k & 3) == 3)
+				made = (made & ~(3u << k)) | (wanted & 3u << k);
 		for (unsigned block = 0; block < REGION_BLOCKS; block += 2) {
 			region_data(&scene->region, block, 0)[byte] = old;
 			region_data(&scene->region, block, 0)[1 - byte] = 0x1B;
@@ -597,7 +683,13 @@ static void try_all_bytes(struct test *test, struct scene *scene)
 		scene->wanted[byte] = wanted;
 		scene->wanted[1 - byte] = 0xDB;
 		scene_call(test, UPDATE_PLAN, scene);
-		expect_answer(test, changes ? 0 << 8 | 4 << 16 : 255 << 8, "an update changes good entries alone");
+		expect_answer(test, made != old ? 0 << 8 | 4 << 16 : 255 << 8,
+			      "an update changes good entries alone");
+		scene->step = pair % 2 == 0 ? 1 : 3;
+		scene_call(test, UPDATE_PAGE, scene);
+		expect_answer(test, made != old ? REAM_OK : REAM_RANGE, "an update that changes nothing has no page");
+		page = call_left(test, 3);
+		expect(test, made == old || (page[byte] == made && page[1 - byte] == 0x1B), "the page's bytes");
 	}
 }
 
@@ -655,6 +747,9 @@ static void try_each_byte(struct test *test, struct scene *scene)
 		ream_entry_set(scene->wanted, 4 * i + i % 4, i % 3);
 		scene_call(test, UPDATE_PLAN, scene);
 		expect_answer(test, 18 << 8 | 10 << 16, "ten steps and the next version");
+		scene->step = 1 + i / PAGE_DATA;
+		scene_call(test, UPDATE_PAGE, scene);
+		expect(test, call_left(test, 3)[i % PAGE_DATA] == scene->wanted[i], "the entry in its page");
 		scene->wanted[i] = 0xFF;
 	}
 }
@@ -683,10 +778,10 @@ static void try_drawn_updates(struct test *test, struct scene *scene)
 	}
 }
 
-/* ---- the order of the refusals */
+/* ---- troubled regions */
 
 /* Casts that are refused each in its way, and one that is not. */
-enum { TROUBLES = 8 };
+enum { TROUBLES = 12 };
 
 static struct cast cast_troubled(uint64_t n, unsigned trouble)
 {
@@ -716,12 +811,71 @@ static struct cast cast_troubled(uint64_t n, unsigned trouble)
 	case 7:		/* 10 in reading, 11 in recovery */
 		cast.role[0] = cast.role[1] = cast.role[2] = MARKED;
 		break;
+	case 8:		/* 10 in reading, and in recovery a copy made anew: of the newer primary, .. */
+		cast.version[PRIMARY] += 127;
+		cast.equal = false;
+		break;
+	case 9:		/* .. the newer mirror, .. */
+		cast.version[MIRROR] += 127;
+		cast.equal = false;
+		break;
+	case 10:	/* .. the primary alone .. */
+		cast.role[1] = BLANK;
+		break;
+	case 11:	/* .. or the mirror alone */
+		cast.role[3] = MARKED;
+		break;
 	}
 	return cast;
 }
 
+/* ---- steps */
+
+/* Asks for pages by numbers from 0 on, and by such with a bit set that a cut to fewer bits would lose: the
+ * plan's writes are given, and nothing else. */
+static void expect_steps(struct test *test, struct scene *scene, enum entry_index plan_index,
+			 enum entry_index page_index)
+{
+	static const uint64_t above[] = {
+		0, 16, 64, 256, 65536, (uint64_t)1 << 31, (uint64_t)1 << 32, (uint64_t)1 << 48, (uint64_t)1 << 63,
+		UINT64_MAX - 15,
+	};
+	const uint64_t plan = scene_call(test, plan_index, scene);
+	uint8_t steps[64];
+
+	memcpy(steps, call_left(test, entries[plan_index].buffers - 1), sizeof(steps));
+	for (unsigned i = 0; i < 16 * sizeof(above) / sizeof(above[0]); i++) {
+		scene->step = above[i / 16] + i % 16;
+		scene_call(test, page_index, scene);
+		if (ream_refusal(plan) != REAM_OK)
+			expect_answer(test, ream_refusal(plan), "the refusal of the plan");
+		else if (scene->step < ream_step_count(plan) && steps[4 * scene->step] == REAM_WRITE)
+			expect_answer(test, REAM_OK, "the page of a write");
+		else
+			expect_answer(test, REAM_RANGE, "no page for an erase, nor past the plan's end");
+	}
+}
+
+static void try_steps(struct test *test, struct scene *scene)
+{
+	test->trying = "numbers of steps";
+	for (unsigned p = 0; p < MOST_PAGES; p++) {
+		for (unsigned trouble = 0; trouble < TROUBLES; trouble++) {
+			const struct cast cast = cast_troubled(size_by_pages[p], trouble);
+
+			scene_build_changing(test, scene, &cast);
+			expect_steps(test, scene, RECOVERY_PLAN, RECOVERY_PAGE);
+			expect_steps(test, scene, UPDATE_PLAN, UPDATE_PAGE);
+			memset(scene->wanted, 0xFF, (size_t)cast.n / 4);
+			expect_steps(test, scene, UPDATE_PLAN, UPDATE_PAGE);
+		}
+	}
+}
+
+/* ---- the order of the refusals */
+
 /* A call on a troubled region with a wrong N, a wrong length (of buffer `wrong`, if there is such a one) and
- * a wrong status byte, each or not. */
+ * a wrong status byte, each or not. Where a page is asked for, the step is anything. */
 static void try_ranks(struct test *test, struct scene *scene, enum entry_index index, bool wrong_n,
 		      unsigned wrong, bool wrong_status)
 {
@@ -734,6 +888,8 @@ static void try_ranks(struct test *test, struct scene *scene, enum entry_index i
 		test->call.len[wrong] -= 1;
 	if (wrong_status)
 		test->call.bytes[1][place] = 2;
+	if (gives_page(index))
+		test->call.number[1] = draw(&test->state) >> draw_below(&test->state, 64);
 	call_compare(test);
 	if (wrong_n)
 		expect_answer(test, REAM_RANGE, "N is judged first");
@@ -784,6 +940,22 @@ static void draw_page(struct test *test, struct scene *scene, unsigned block, un
 	*region_status(&scene->region, block, page) = draw_below(&test->state, 12) == 0;
 }
 
+/* The same answer, and the same page, before and after the bytes that must not count are drawn anew. */
+static void expect_unmoved(struct test *test, struct scene *scene, enum entry_index index)
+{
+	const uint64_t answer = scene_call(test, index, scene);
+	const bool page_given = gives_page(index) && ream_refusal(answer) == REAM_OK;
+	uint8_t page[PAGE_BYTES] = { 0 };
+
+	if (page_given)
+		memcpy(page, call_left(test, entries[index].buffers - 1), PAGE_BYTES);
+	scene_stir(test, scene);
+	scene_call(test, index, scene);
+	expect_answer(test, answer, "bytes that must not count change no answer");
+	expect(test, !page_given || memcmp(page, call_left(test, entries[index].buffers - 1), PAGE_BYTES) == 0,
+	       "bytes that must not count change no page");
+}
+
 /* Nothing is claimed of these but that library and reference agree, and go on agreeing with their own
  * answers when the bytes that must not count are drawn anew. */
 static void try_drawn_regions(struct test *test, struct scene *scene)
@@ -791,7 +963,6 @@ static void try_drawn_regions(struct test *test, struct scene *scene)
 	test->trying = "drawn regions";
 	for (unsigned i = 0; i < 12000; i++) {
 		struct cast cast = cast_settled(size_by_pages[i % MOST_PAGES], 0, 1, 0);
-		uint64_t answers[REGION_ENTRIES];
 
 		cast.equal = i % 2 == 0;
 		scene_build(test, scene, &cast);
@@ -803,13 +974,9 @@ static void try_drawn_regions(struct test *test, struct scene *scene)
 			if (draw_below(&test->state, 3) == 0)
 				region_oob(&scene->region, block, 0)[SIGNATURE] ^= 0x80;
 		}
+		scene->step = draw_below(&test->state, 11);
 		for (unsigned k = 0; k < REGION_ENTRIES; k++)
-			answers[k] = scene_call(test, region_entries[k], scene);
-		scene_stir(test, scene);
-		for (unsigned k = 0; k < REGION_ENTRIES; k++) {
-			scene_call(test, region_entries[k], scene);
-			expect_answer(test, answers[k], "bytes that must not count change no answer");
-		}
+			expect_unmoved(test, scene, region_entries[k]);
 	}
 
 	test->trying = "senseless regions";
@@ -838,6 +1005,7 @@ void test_large(struct test *test)
 	try_sizes_of_buffers(test);
 	try_entries_of_bitmaps(test);
 	try_null_pointers(test, scene);
+	try_null_pages(test, scene);
 	try_numbers_of_blocks(test, scene);
 	try_region_lengths(test, scene);
 	try_lengths_of_other_sizes(test, scene);
@@ -853,6 +1021,7 @@ void test_large(struct test *test)
 	try_updates(test, scene);
 	try_each_byte(test, scene);
 	try_drawn_updates(test, scene);
+	try_steps(test, scene);
 	try_order(test, scene);
 	try_drawn_regions(test, scene);
 	free(scene);

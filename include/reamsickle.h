@@ -50,13 +50,48 @@
  *   No answer depends on any other byte of a region than these: the status, and of pages that read well the
  *   bitmap's bytes, OOB 14-18, and OOB 0 of a block's first page.
  *
- *   A plan is a list of steps for the driver to carry out in their order, each to its end before the next
- *   begins. A step erases a block, or writes one page of a copy into an erased block: data bytes and OOB as
- *   above, with FF in OOB 0-13. A plan's version is the one that its pages carry. An update's steps for the
- *   primary all come before those for the mirror. A driver reads its table like this:
+ * Plans and power cuts
  *
- *	read the region; ream_table_read();
- *	if that is refused with REAM_NOT_SETTLED: ream_recovery_plan(), carry out its steps, start again
+ *   A plan is a list of steps for the driver to carry out in their order, each to its end before the next
+ *   begins. A step erases a block, or writes one page of a copy into an erased block. Steps are numbered from
+ *   0. A plan's version is the one that its pages carry. The page that a step writes is asked for by the step's
+ *   number, from the snapshot that the plan was made from:
+ *
+ *	read the region: this is the snapshot; keep it, and the wanted bitmap, to the plan's end
+ *	plan: ream_update_plan() or ream_recovery_plan()
+ *	for each step of the plan, in order:
+ *		an erase: erase its block
+ *		a write: ask ream_update_page() or ream_recovery_page() for the page, with the same snapshot
+ *			and the step's number; write these 2,112 bytes to the step's block and page
+ *
+ *   A power cut ends the plan. The driver then reads the region again, plans a recovery from what it finds and
+ *   carries that out; if power fails in the recovery, the same again. So it reads its table like this:
+ *
+ *	read the region; ream_table_read()
+ *	if that is refused with REAM_NOT_SETTLED: plan a recovery, carry it out, start again
+ *
+ *   An update has its new primary complete before it touches the mirror. So whatever is cut, these are the good
+ *   copies that can be found:
+ *
+ *	primary	mirror	what a recovery does		and the table is
+ *	old	old	nothing				the old one
+ *	none	old	makes the primary again		the old one
+ *	new	old	makes the mirror anew		the new one
+ *	new	none	makes the mirror		the new one
+ *	new	new	nothing				the new one
+ *
+ *   From any settled pair, whatever is planned and wherever power fails, in a recovery too: after each recovery
+ *   that is carried out to its end the pair is settled and holds the whole old table or the whole new one of the
+ *   last update, with its version, the new one exactly if every page of the new primary was complete when the
+ *   update's plan ended, was cut or was replaced by another. An entry that a settled table calls not good is the
+ *   same in every later settled one. No step touches a block outside the region or erases one that is readable
+ *   as bad, and no recovery is refused for what the region holds.
+ *
+ *   That rests on what the chip and its driver see to. Nobody else writes in the region. An erase that is done
+ *   leaves the block's P pages blank: they read well and are all FF. A write that is done leaves its page
+ *   complete: it reads well, with data and OOB 14-63 as asked; in OOB 0-13 the controller may put anything. A
+ *   cut erase leaves each page as it was, blank or unreadable, a cut write leaves its page blank, complete or
+ *   unreadable, and all other pages keep reading the same.
  *
  * How to call
  *
@@ -77,8 +112,9 @@
  *
  *   A refused call changes no lent byte, outputs included. Where several things are wrong at once the
  *   order of judging decides: N (2), then all lengths (1), then the other arguments (2), then what the
- *   page holds (3, 4, 5, 6) or what the region holds (8, 7, 9, then 10 or 11). While N is refused no
- *   length is judged. Each entry below names the refusals it can give, in its order.
+ *   page holds (3, 4, 5, 6) or what the region holds (8, 7, 9, then 10 or 11). A step's number can only be
+ *   judged once the plan is known, so its refusal (2) comes last of all. While N is refused no length is
+ *   judged. Each entry below names the refusals it can give, in its order.
  *
  * What the library cannot see, and the caller owes
  *
@@ -178,7 +214,7 @@ enum ream_step_kind {
 enum ream_large_size {
 	REAM_LARGE_DATA_SIZE = 2048,	/* a page's data */
 	REAM_LARGE_OOB_SIZE = 64,	/* a page's OOB */
-	REAM_LARGE_PAGE_SIZE = 2112,	/* a page in an image, data and OOB */
+	REAM_LARGE_PAGE_SIZE = 2112,	/* a page, data and OOB */
 	REAM_REGION_BLOCKS = 4,		/* blocks of the region */
 	REAM_STEP_SIZE = 4,		/* a step of a plan */
 	REAM_STEPS_SIZE = 64,		/* the room that planning asks for, 16 steps */
@@ -346,6 +382,43 @@ uint64_t ream_update_plan(uint64_t n, const uint8_t *image, size_t image_len,
  */
 uint64_t ream_recovery_plan(uint64_t n, const uint8_t *image, size_t image_len,
 			    const uint8_t *status, size_t status_len, uint8_t *steps, size_t steps_len);
+
+/*
+ * The page that a step of an update's plan writes.
+ *
+ *	n, image, status, wanted
+ *		as ream_update_plan() was called with: the snapshot that the plan was made from, not the region
+ *		as it is by now
+ *	step	the step's number in that plan, from 0
+ *	page	2,112 bytes, out: the page's data, then its OOB
+ *
+ * The data is the page's part of the new table, with FF after the bitmap's end. In the OOB stand the signature
+ * of the copy that the step belongs to (14-17) and the plan's version (18); all other OOB bytes are FF.
+ *
+ * Refuses, in this order: REAM_RANGE (n); REAM_LENGTH; REAM_RANGE (a status byte); REAM_SEVERAL_COPIES;
+ * REAM_NO_COPY; REAM_OPPOSITE; REAM_NOT_SETTLED; REAM_RANGE (a step past the plan's end, or of an erase, so
+ * every step of an empty plan). image, status and wanted are never changed.
+ */
+uint64_t ream_update_page(uint64_t n, const uint8_t *image, size_t image_len,
+			  const uint8_t *status, size_t status_len, const uint8_t *wanted, size_t wanted_len,
+			  uint64_t step, uint8_t *page, size_t page_len);
+
+/*
+ * The page that a step of a recovery's plan writes.
+ *
+ *	n, image, status
+ *		as ream_recovery_plan() was called with: the snapshot that the plan was made from, not the
+ *		region as it is by now
+ *	step	the step's number in that plan, from 0
+ *	page	2,112 bytes, out: as of ream_update_page(), with the table that the recovery keeps
+ *
+ * Refuses, in this order: REAM_RANGE (n); REAM_LENGTH; REAM_RANGE (a status byte); REAM_SEVERAL_COPIES;
+ * REAM_NO_COPY; REAM_OPPOSITE; REAM_NO_TARGET; REAM_RANGE (a step past the plan's end, or of an erase, so
+ * every step of an empty plan). image and status are never changed.
+ */
+uint64_t ream_recovery_page(uint64_t n, const uint8_t *image, size_t image_len,
+			    const uint8_t *status, size_t status_len, uint64_t step,
+			    uint8_t *page, size_t page_len);
 
 #ifdef __cplusplus
 }
@@ -591,6 +664,30 @@ static inline uint64_t ream_recovery_plan_checked(uint64_t n, const uint8_t *ima
 	return ream_recovery_plan(n, image ? image : none, image ? image_len : 0,
 				  status ? status : none, status ? status_len : 0,
 				  steps ? steps : none, steps ? steps_len : 0);
+}
+
+static inline uint64_t ream_update_page_checked(uint64_t n, const uint8_t *image, size_t image_len,
+						const uint8_t *status, size_t status_len,
+						const uint8_t *wanted, size_t wanted_len, uint64_t step,
+						uint8_t *page, size_t page_len)
+{
+	uint8_t none[1] = { 0 };
+
+	return ream_update_page(n, image ? image : none, image ? image_len : 0,
+				status ? status : none, status ? status_len : 0,
+				wanted ? wanted : none, wanted ? wanted_len : 0, step,
+				page ? page : none, page ? page_len : 0);
+}
+
+static inline uint64_t ream_recovery_page_checked(uint64_t n, const uint8_t *image, size_t image_len,
+						  const uint8_t *status, size_t status_len, uint64_t step,
+						  uint8_t *page, size_t page_len)
+{
+	uint8_t none[1] = { 0 };
+
+	return ream_recovery_page(n, image ? image : none, image ? image_len : 0,
+				  status ? status : none, status ? status_len : 0, step,
+				  page ? page : none, page ? page_len : 0);
 }
 
 #endif

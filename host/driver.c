@@ -1,0 +1,119 @@
+/* The library as the driver of a history calls it. */
+#include "driver.h"
+
+#include <string.h>
+
+#include "draw.h"
+#include "reamsickle.h"
+
+static bool is_update(enum asked asked)
+{
+	return asked == UPDATE_PLAN || asked == UPDATE_PAGE;
+}
+
+static void lend(struct driver *driver, enum buffer buffer, const uint8_t *bytes, size_t len)
+{
+	lent_set(&driver->lent[buffer], bytes, len, driver->turn);
+}
+
+/* Lends what a request names, with drawn bytes in the output. */
+static void lend_all(struct driver *driver, uint64_t *state, const struct request *request)
+{
+	const struct region *region = request->region;
+	const size_t out_len = request->asked == UPDATE_PLAN || request->asked == RECOVERY_PLAN ? REAM_STEPS_SIZE
+											      : PAGE_BYTES;
+	uint8_t out[PAGE_BYTES];
+
+	memset(out, (int)draw_below(state, 256), sizeof(out));
+	driver->turn++;
+	lend(driver, IMAGE, region->image, region_image_len(region));
+	lend(driver, STATUS, region->status, region_status_len(region));
+	if (is_update(request->asked))
+		lend(driver, WANTED, request->wanted, (size_t)region->n / 4);
+	else
+		lend(driver, WANTED, out, 0);
+	lend(driver, OUT, out, out_len);
+}
+
+/* A length that is not the one lent. The bytes behind a buffer are the driver's own, so nothing happens to
+ * others even where a length is told too long. */
+static void spoil_length(struct driver *driver, uint64_t *state, enum asked asked)
+{
+	static const enum buffer buffers[] = { IMAGE, STATUS, OUT, WANTED };
+	struct lent *lent = &driver->lent[buffers[draw_below(state, is_update(asked) ? 4 : 3)]];
+	const size_t told = (size_t)draw_below(state, lent->held + LENT_GUARD);
+
+	lent->len = told < lent->held ? told : told + 1;
+}
+
+/* Puts in the flaw, and gives N as it is told. */
+static uint64_t spoil_arguments(struct driver *driver, uint64_t *state, const struct request *request)
+{
+	static const uint64_t no_sizes[] = { 0, 4, 9, 10, 32772, UINT64_MAX };
+
+	switch (request->flaw) {
+	case FLAW_N:
+		return no_sizes[draw_below(state, sizeof(no_sizes) / sizeof(no_sizes[0]))];
+	case FLAW_LENGTH:
+		spoil_length(driver, state, request->asked);
+		break;
+	case FLAW_STATUS:
+		lent_bytes(&driver->lent[STATUS])[draw_below(state, driver->lent[STATUS].held)] =
+			(uint8_t)(2 + draw_below(state, 254));
+		break;
+	case NO_FLAW:
+	case FLAWS:
+		break;
+	}
+	return request->region->n;
+}
+
+/* The library's entries. */
+static uint64_t call(struct driver *driver, enum asked asked, uint64_t n, uint64_t step)
+{
+#define LENT(buffer) lent_bytes(&driver->lent[buffer]), driver->lent[buffer].len
+	switch (asked) {
+	case UPDATE_PLAN:
+		return ream_update_plan(n, LENT(IMAGE), LENT(STATUS), LENT(WANTED), LENT(OUT));
+	case RECOVERY_PLAN:
+		return ream_recovery_plan(n, LENT(IMAGE), LENT(STATUS), LENT(OUT));
+	case UPDATE_PAGE:
+		return ream_update_page(n, LENT(IMAGE), LENT(STATUS), LENT(WANTED), step, LENT(OUT));
+	case RECOVERY_PAGE:
+	case ASKS:
+		break;
+	}
+	return ream_recovery_page(n, LENT(IMAGE), LENT(STATUS), step, LENT(OUT));
+#undef LENT
+}
+
+/* Checks what the call left of the buffers. */
+static void check(struct driver *driver, bool refused)
+{
+	for (unsigned i = 0; i < BUFFERS; i++) {
+		struct lent *lent = &driver->lent[i];
+
+		if (!lent_guarded(lent))
+			driver->broken = "no call writes outside its buffers";
+		if ((refused || i != OUT) && memcmp(lent_bytes(lent), driver->before[i], lent->held) != 0)
+			driver->broken = refused ? "a refused call changes nothing" : "no call changes an input";
+	}
+}
+
+uint64_t driver_ask(struct driver *driver, uint64_t *state, const struct request *request)
+{
+	uint64_t n, answer;
+
+	lend_all(driver, state, request);
+	n = spoil_arguments(driver, state, request);
+	for (unsigned i = 0; i < BUFFERS; i++)
+		memcpy(driver->before[i], lent_bytes(&driver->lent[i]), driver->lent[i].held);
+	answer = call(driver, request->asked, n, request->step);
+	check(driver, ream_refusal(answer) != REAM_OK);
+	return answer;
+}
+
+const uint8_t *driver_out(struct driver *driver)
+{
+	return lent_bytes(&driver->lent[OUT]);
+}

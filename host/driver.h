@@ -1,0 +1,43 @@
+/*
+ * The library as the driver of a history calls it: the four entries that plan and give pages. Every buffer is
+ * lent between guard bytes (lent.h). Of each call it is checked that no guard byte and no input has changed,
+ * and no output either if the call was refused; what is found wrong stands in `broken`.
+ */
+#ifndef DRIVER_H
+#define DRIVER_H
+
+#include <stdint.h>
+
+#include "lent.h"
+#include "region.h"
+
+enum asked { UPDATE_PLAN, RECOVERY_PLAN, UPDATE_PAGE, RECOVERY_PAGE, ASKS };
+
+/* What is wrong with the arguments of a call. */
+enum flaw { NO_FLAW, FLAW_N, FLAW_LENGTH, FLAW_STATUS, FLAWS };
+
+/* The buffers of a call. A recovery's has no wanted bitmap. */
+enum buffer { IMAGE, STATUS, WANTED, OUT, BUFFERS };
+
+struct request {
+	enum asked asked;
+	const struct region *region;	/* the snapshot */
+	const uint8_t *wanted;		/* of an update */
+	uint64_t step;			/* of a page */
+	enum flaw flaw;
+};
+
+struct driver {
+	struct lent lent[BUFFERS];
+	uint8_t before[BUFFERS][REGION_BLOCKS * MOST_PAGES * PAGE_BYTES];	/* as they were lent */
+	uint8_t turn;
+	const char *broken;
+};
+
+/* Makes a call and gives the answer. `state` is that of draw(). */
+uint64_t driver_ask(struct driver *driver, uint64_t *state, const struct request *request);
+
+/* What the last call filled: 64 bytes of steps, or the 2,112 bytes of a page. */
+const uint8_t *driver_out(struct driver *driver);
+
+#endif

@@ -1,0 +1,56 @@
+/*
+ * A history: a settled region, and then events drawn one after the other, as document 01 has them. Plans are
+ * made and replaced, calls are refused, steps are done, and power is cut in them and between them. Plans and
+ * pages are the library's (driver.h), what is left of the chip is the rig's (rig.h), and after each event the
+ * checker judges (checker.h).
+ *
+ * A history follows from its seed alone, so it can be run again by itself.
+ */
+#ifndef HISTORY_H
+#define HISTORY_H
+
+#include <stdbool.h>
+#include <stdint.h>
+
+#include "checker.h"
+#include "driver.h"
+#include "region.h"
+#include "tally.h"
+
+enum {
+	MOST_EVENTS = 160,
+	EVENT_LEN = 160,	/* the room for the text of an event */
+};
+
+/* What plan is in hand. One that has no step left is in hand no more. */
+enum holding { NOTHING, UPDATE, RECOVERY };
+
+struct hand {
+	enum holding holding;
+	struct region snapshot;			/* what it was made from */
+	uint8_t wanted[MOST_BITMAP];		/* of an update */
+	uint8_t steps[64];
+	unsigned count;				/* of its steps */
+	unsigned next;				/* the step that comes next */
+};
+
+struct history {
+	uint64_t state;		/* of draw() */
+	unsigned calm;		/* of a hundred events within a plan so many are its next step, done */
+	struct region region;	/* the chip */
+	struct hand hand;
+	struct driver driver;
+	struct checker checker;
+	struct tally *tally;
+	unsigned events;
+	char event[MOST_EVENTS][EVENT_LEN];	/* what happened, in words; the start comes first */
+	const char *broken;	/* a rule of the calls themselves; the driver and the checker have their own */
+};
+
+/* Runs a history and counts its events. Gives false if a rule was broken. */
+bool history_run(struct history *history, uint64_t seed, struct tally *tally);
+
+/* Prints the events of the last history, and the rule that was broken. */
+void history_print(const struct history *history);
+
+#endif

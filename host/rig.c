@@ -1,0 +1,194 @@
+/* A chip on a rig that cuts its power. */
+#include "rig.h"
+
+#include <string.h>
+
+#include "draw.h"
+#include "drawn.h"
+
+/* Numbers of blocks for each P: the ends of its range, and one between. */
+static const uint64_t sizes[MOST_PAGES][3] = {
+	{ 8, 12, 8192 }, { 8196, 12000, 16384 }, { 16388, 20000, 24576 }, { 24580, 32764, 32768 },
+};
+
+/* Bytes that may be anything: all FF, all 00, or drawn. */
+static void fill(uint64_t *state, uint8_t *bytes, size_t len)
+{
+	switch (draw_below(state, 3)) {
+	case 0:
+		memset(bytes, 0xFF, len);
+		break;
+	case 1:
+		memset(bytes, 0, len);
+		break;
+	default:
+		draw_bytes(state, bytes, len);
+		break;
+	}
+}
+
+/* ---- starts */
+
+/* Versions about which something turns over, and any. */
+static uint8_t draw_version(uint64_t *state)
+{
+	static const uint8_t versions[] = { 0, 1, 127, 128, 254, 255 };
+
+	if (draw_below(state, 2) == 0)
+		return (uint8_t)draw(state);
+	return versions[draw_below(state, sizeof(versions))];
+}
+
+/* The version of a copy beside a pair: the pair's, one about it, the opposite one, or any. */
+static uint8_t draw_other_version(uint64_t *state, uint8_t version)
+{
+	static const uint8_t ahead[] = { 0, 1, 255, 128 };
+
+	if (draw_below(state, 3) == 0)
+		return (uint8_t)draw(state);
+	return (uint8_t)(version + ahead[draw_below(state, sizeof(ahead))]);
+}
+
+static void fill_half(uint64_t *state, struct region *region, unsigned block, enum kind kind,
+		      const struct start *start, const uint8_t *table)
+{
+	const unsigned spoilt = (unsigned)draw_below(state, region->pages);
+	uint8_t other[MOST_BITMAP];
+
+	drawn_table(state, other, region->n);
+	region_copy(region, block, kind, draw_other_version(state, start->version),
+		    draw_below(state, 2) == 0 ? table : other);
+	for (unsigned page = 0; page < region->pages; page++)
+		if (page == spoilt || draw_below(state, 3) == 0)
+			drawn_spoil(state, region, block, page, kind, drawn_way(state, region->pages));
+}
+
+/* Every page of a block unreadable, over the bytes of a good copy or over anything. */
+static void fill_unreadable(uint64_t *state, struct region *region, unsigned block, const struct start *start,
+			    const uint8_t *table)
+{
+	region_copy(region, block, (enum kind)draw_below(state, KINDS), start->version, table);
+	for (unsigned page = 0; page < region->pages; page++) {
+		if (draw_below(state, 2) == 0)
+			fill(state, region_data(region, block, page), PAGE_BYTES);
+		*region_status(region, block, page) = 1;
+	}
+}
+
+/* A mark and no signature on the first page; the other pages are blank, or those of a copy. */
+static void fill_bad(uint64_t *state, struct region *region, unsigned block, const struct start *start,
+		     const uint8_t *table)
+{
+	uint8_t *oob = region_oob(region, block, 0);
+
+	if (draw_below(state, 2) == 0)
+		region_copy(region, block, (enum kind)draw_below(state, KINDS), start->version, table);
+	fill(state, oob, PAGE_OOB);
+	memset(oob, 0, SIGNATURE + 1);
+}
+
+static void fill_block(uint64_t *state, struct region *region, unsigned block, const struct start *start,
+		       const uint8_t *table)
+{
+	switch (start->filling[block]) {
+	case FILLED_PAIR:
+		region_copy(region, block, block == start->block[PRIMARY] ? PRIMARY : MIRROR, start->version, table);
+		break;
+	case FILLED_BLANK:
+		break;
+	case FILLED_SENSELESS:
+		for (unsigned page = 0; page < region->pages; page++)
+			fill(state, region_data(region, block, page), PAGE_BYTES);
+		break;
+	case FILLED_BAD:
+		fill_bad(state, region, block, start, table);
+		break;
+	case FILLED_UNREADABLE:
+		fill_unreadable(state, region, block, start, table);
+		break;
+	case FILLED_HALF_PRIMARY:
+		fill_half(state, region, block, PRIMARY, start, table);
+		break;
+	case FILLED_HALF_MIRROR:
+		fill_half(state, region, block, MIRROR, start, table);
+		break;
+	case FILLINGS:
+		break;
+	}
+}
+
+void rig_start(uint64_t *state, struct start *start, struct region *region)
+{
+	uint8_t table[MOST_BITMAP];
+
+	start->n = sizes[draw_below(state, MOST_PAGES)][draw_below(state, 3)];
+	start->version = draw_version(state);
+	start->block[PRIMARY] = (unsigned)draw_below(state, REGION_BLOCKS);
+	start->block[MIRROR] = (start->block[PRIMARY] + 1 + (unsigned)draw_below(state, 3)) % REGION_BLOCKS;
+	for (unsigned block = 0; block < REGION_BLOCKS; block++)
+		start->filling[block] = (enum filling)(1 + draw_below(state, FILLINGS - 1));
+	start->filling[start->block[PRIMARY]] = start->filling[start->block[MIRROR]] = FILLED_PAIR;
+
+	drawn_table(state, table, start->n);
+	region_begin(region, start->n);
+	for (unsigned block = 0; block < REGION_BLOCKS; block++)
+		fill_block(state, region, block, start, table);
+	if (draw_below(state, 2) == 0)
+		drawn_stir(state, region);
+	for (unsigned kind = 0; kind < KINDS; kind++)
+		for (unsigned page = 0; page < region->pages; page++)
+			fill(state, region_oob(region, start->block[kind], page), SIGNATURE);
+}
+
+/* ---- steps */
+
+static void set_blank(struct region *region, unsigned block, unsigned page)
+{
+	memset(region_data(region, block, page), 0xFF, PAGE_BYTES);
+	*region_status(region, block, page) = 0;
+}
+
+/* An unreadable page, over what it held or over anything. */
+static void set_unreadable(uint64_t *state, struct region *region, unsigned block, unsigned page)
+{
+	if (draw_below(state, 2) == 0)
+		fill(state, region_data(region, block, page), PAGE_BYTES);
+	*region_status(region, block, page) = 1;
+}
+
+void rig_write(uint64_t *state, struct region *region, unsigned block, unsigned page, const uint8_t *image)
+{
+	memcpy(region_data(region, block, page), image, PAGE_BYTES);
+	fill(state, region_oob(region, block, page), SIGNATURE);
+	*region_status(region, block, page) = 0;
+}
+
+void rig_cut_erase(uint64_t *state, struct region *region, unsigned block, enum left left[MOST_PAGES])
+{
+	static const enum left choices[] = { LEFT_AS_IT_WAS, LEFT_BLANK, LEFT_UNREADABLE };
+
+	for (unsigned page = 0; page < region->pages; page++) {
+		left[page] = choices[draw_below(state, 3)];
+		if (left[page] == LEFT_BLANK)
+			set_blank(region, block, page);
+		if (left[page] == LEFT_UNREADABLE)
+			set_unreadable(state, region, block, page);
+	}
+}
+
+enum left rig_cut_write(uint64_t *state, struct region *region, unsigned block, unsigned page,
+			const uint8_t *image)
+{
+	static const enum left choices[] = { LEFT_BLANK, LEFT_COMPLETE, LEFT_UNREADABLE };
+	const enum left left = choices[draw_below(state, 3)];
+
+	if (left == LEFT_BLANK) {
+		set_blank(region, block, page);
+		return left;
+	}
+	if (left == LEFT_COMPLETE || draw_below(state, 2) == 0)
+		rig_write(state, region, block, page, image);
+	if (left == LEFT_UNREADABLE)
+		set_unreadable(state, region, block, page);
+	return left;
+}
