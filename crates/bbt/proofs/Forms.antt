@@ -117,9 +117,6 @@ module _ {chip : LargeChip} (ok : Judged chip) where
     pub sole-new : {k : Kind} {t : Table} → b < chip .region → Clear r k b → good (pagesOf chip) (view s) k b ≡ true → table (pagesOf chip) (view s) b ≡ t → Sole s k b t
     sole-new {k} hb h e w = record { found = find-only (chip .region) (good (pagesOf chip) (view s) k) b hb e (clear-frame h); content = w }
 
-    pub clear-kept : {k : Kind} → Clear r k b → Clear s k b
-    clear-kept h = record { elsewhere = clear-frame h }
-
     pub room-kept : {g : ℕ} (w : Room r g) → w .spot ≢ b → Room s g
     room-kept w n = record { spot = w .spot; spot-in = w .spot-in; spot-off = w .spot-off; spot-fit = frame-bad (w .spot) (w .spot-in) n ∙ w .spot-fit }
 
@@ -164,9 +161,6 @@ module _ {chip : LargeChip} (ok : Judged chip) where
 
     pub missing-same : {k : Kind} → Missing r k → Missing s k
     missing-same h = missing-kept r s (chip .region) f (missing-clear h (chip .region)) (λ l. absurd (omega arith))
-
-    pub clear-same : {k : Kind} {b : ℕ} → Clear r k b → Clear s k b
-    clear-same {k} {b} h = record { elsewhere = λ d l n. frame-good r s (chip .region) f k d l (omega arith) ∙ h .elsewhere d l n }
 
     pub lacks-same : {k j : Kind} {g : ℕ} {c : Table} → Lacks r k j g c → Lacks s k j g c
     lacks-same h = record {
