@@ -1,7 +1,7 @@
 -- What the library plans: a region's case says which good copies there are, so what it takes for the plan's steps is there (`Ready`), for
 -- any region image; and from a sound region a recovery is planned, of the table that the region holds.
 -- Assumes nothing.
-use mathlib.Core.Bool.{Bool, true, false, cond, true≢false}
+use mathlib.Core.Bool.{Bool, true, false, not, cond, true≢false}
 use mathlib.Core.List.{List, [], _∷_}
 use mathlib.Core.Logic.{_≢_}
 use mathlib.Core.Option.{Option, none, some}
@@ -12,7 +12,7 @@ use borrow.Author.Tests.{eqb-true, eq-eqb, ne-eqb, lt-ltb}
 use lib.Dec.{eqb, ltb}
 use lib.IntN.{ℤ, pos, negsuc}
 use lib.ListN.{length, getD}
-use Rattle.bits.proofs.Both.{both-intro}
+use Rattle.bits.proofs.Both.{both-left, both-right, both-intro}
 use Rattle.chip.specs.Large.{bitmapBytes, pagesOf, regionPages, regionBytes}
 use Rattle.chip.specs.declared.LargeChip.{LargeChip}
 use Rattle.chip.specs.declared.Refusal.the-variants.{Length, Opposite}
@@ -29,11 +29,15 @@ use Rattle.bbt.specs.PowerCuts.{Keeps}
 use Rattle.bbt.specs.Regions.{Region, view}
 use Rattle.bbt.proofs.Forms.{Sole, Missing, Clear, Room, Lacks, Sound, twins, ahead, one-left, sole-clear, sole-in, sole-fit, sole-length, sole-apart, missing-clear}
 use Rattle.bbt.proofs.LeftPages.{Judged, Twin, primary-kind, mirror-kind, version-byte}
-use Rattle.bbt.proofs.Searches.{all-intro, highest-some, highest-is, Passes, same-refl, same-eq}
+use Rattle.bbt.proofs.Searches.{all-intro, highest-some, highest-is, same-refl, same-eq}
 use Rattle.bbt.proofs.Updating.{length-updated, length-anded, update-keeps}
 
 no-confusion : _≡_ {A = ℕ} 0 1 → ⊥
 no-confusion e = omega arith
+
+not-true : (x : Bool) → not x ≡ true → x ≡ false
+not-true true e = absurd (true≢false (sym e))
+not-true false e = refl
 
 -- ---- versions
 pub next-differs : (v : ℕ) → v < 256 → nextVersion v ≢ v
@@ -217,13 +221,11 @@ module _ {chip : LargeChip} (ok : Judged chip) where
   -- ---- targets
   target-free : (r : Region chip) (g t : ℕ) → target chip (view r) (g ∷ []) ≡ some t → (t < chip .region) × (g ≢ t) × (readsBad (view r) t ≡ false)
   unfolding target member
-  target-free r g t e = go (eqb t g) refl (readsBad (view r) t) refl (highest-is (chip .region) (isFree (view r) (g ∷ [])) t e)
-    where
-      go : (x : Bool) → eqb t g ≡ x → (y : Bool) → readsBad (view r) t ≡ y → Passes (chip .region) (isFree (view r) (g ∷ [])) t
-          → (t < chip .region) × (g ≢ t) × (readsBad (view r) t ≡ false)
-      go true ex y ey h = absurd (true≢false (sym (h .passing) ∙ rw ex))
-      go false ex true ey h = absurd (true≢false (sym (h .passing) ∙ rw (ex, ey)))
-      go false ex false ey h = (h .below, (λ z. true≢false (sym (eq-eqb t g (sym z)) ∙ ex)), ey)
+  target-free r g t e =
+      let h = highest-is (chip .region) (isFree (view r) (g ∷ [])) t e in
+      let off : member t (g ∷ []) ≡ false = not-true (member t (g ∷ [])) (both-left (not (member t (g ∷ []))) (not (readsBad (view r) t)) (h .passing)) in
+      let fit : readsBad (view r) t ≡ false = not-true (readsBad (view r) t) (both-right (not (member t (g ∷ []))) (not (readsBad (view r) t)) (h .passing)) in
+      (h .below, (λ z. true≢false (sym (rw (eq-eqb t g (sym z))) ∙ off)), fit)
 
   target-there : (r : Region chip) (g : ℕ) → Room r g → (t : ℕ) × (target chip (view r) (g ∷ []) ≡ some t)
   unfolding target member
