@@ -20,9 +20,7 @@ use Rattle.bbt.proofs.LeftPages.{Judged, judge, Twin, primary-kind, mir
 use Rattle.bbt.proofs.Numbering.{Tracked, track-first, track-next, track-numbered}
 use Rattle.bbt.proofs.Placing.{did, Placing, place-start, place-fill, Went, more, placed, place-done}
 use Rattle.bbt.proofs.Planning.{Update, no-news, news, updates, settled-reading, reading-settled, plan-asked, Ready, nothing-to-do, one-to-place, both-to-place, plan-ready}
-
-no-confusion : _≡_ {A = ℕ} 0 1 → ⊥
-no-confusion e = omega arith
+use Rattle.bbt.proofs.Searches.{no-confusion}
 
 -- ---- the number of steps
 length-writes : (n p b : ℕ) (k : Kind) (t : Table) (rest : List Step) → length (writes n p b k t rest) ≡ n + length rest

@@ -4,7 +4,6 @@
 use mathlib.Core.List.{List, [], _∷_, map}
 use mathlib.Core.Path.{_≡_, refl, ap, _∙_}
 use Prim.Native.Nat.{ℕ, zero, suc}
-use native.Mathlib.Omega.{arith}
 use Rattle.chip.specs.Large.{pagesOf}
 use Rattle.chip.specs.declared.LargeChip.{LargeChip}
 use Rattle.bbt.specs.declared.Step.{Step as ToldStep}
@@ -16,6 +15,7 @@ use Rattle.bbt.specs.Regions.{Region}
 use Rattle.bbt.specs.Told.{toldStep, nthStep}
 use Rattle.bbt.proofs.LeftPages.{Judged}
 use Rattle.bbt.proofs.Planning.{asked-is}
+use Rattle.bbt.proofs.Searches.{no-confusion}
 use Rattle.bbt.proofs.ToldSteps.{tells-steps}
 
 -- ---- the steps from number i on
@@ -23,9 +23,6 @@ unfoldable pub stepsFrom : List Step → ℕ → List Step
 stepsFrom es zero = es
 stepsFrom [] (suc i) = []
 stepsFrom (e ∷ es) (suc i) = stepsFrom es i
-
-no-confusion : _≡_ {A = ℕ} 0 1 → ⊥
-no-confusion e = omega arith
 
 from-next : (l : List Step) (i : ℕ) {e : Step} {es : List Step} → stepsFrom l i ≡ e ∷ es → stepsFrom l (suc i) ≡ es
 unfolding stepsFrom

@@ -29,11 +29,8 @@ use Rattle.bbt.specs.PowerCuts.{Keeps}
 use Rattle.bbt.specs.Regions.{Region, view}
 use Rattle.bbt.proofs.Forms.{Sole, Missing, Clear, Room, Lacks, Sound, twins, ahead, one-left, sole-clear, sole-in, sole-fit, sole-length, sole-apart, missing-clear}
 use Rattle.bbt.proofs.LeftPages.{Judged, Twin, primary-kind, mirror-kind, version-byte}
-use Rattle.bbt.proofs.Searches.{all-intro, highest-some, highest-is, same-refl, same-eq}
+use Rattle.bbt.proofs.Searches.{no-confusion, all-intro, highest-some, highest-is, same-refl, same-eq}
 use Rattle.bbt.proofs.Updating.{length-updated, length-anded, update-keeps}
-
-no-confusion : _≡_ {A = ℕ} 0 1 → ⊥
-no-confusion e = omega arith
 
 not-true : (x : Bool) → not x ≡ true → x ≡ false
 not-true true e = absurd (true≢false (sym e))

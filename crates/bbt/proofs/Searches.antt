@@ -18,6 +18,10 @@ use Rattle.bbt.specs.Copies.{all, parts, pagePart, Found, nowhere, only,
 use Rattle.bbt.specs.Pages.{Page}
 use Rattle.bbt.specs.Pairs.{same}
 
+-- what `cc` makes of two values by different constructors
+pub no-confusion : _≡_ {A = ℕ} 0 1 → ⊥
+no-confusion e = omega arith
+
 -- a number below suc n is n or below n
 pub below-suc : {i n : ℕ} → i < suc n → (i ≡ n) ⊎ (i < n)
 below-suc {i} {n} h = go (eq-or-lt-of-le h)
@@ -88,16 +92,16 @@ find-cong (suc n) f g h = ap₂ (λ (t : Bool) (x : Found). also t n x) (h n (om
 also-nowhere : (t : Bool) (b : ℕ) (x : Found) → also t b x ≡ nowhere → (t ≡ false) × (x ≡ nowhere)
 unfolding also
 also-nowhere false b x e = (refl, e)
-also-nowhere true b nowhere e = absurd (let z : _≡_ {A = ℕ} 0 1 = cc in omega arith)
-also-nowhere true b (only c) e = absurd (let z : _≡_ {A = ℕ} 0 1 = cc in omega arith)
-also-nowhere true b several e = absurd (let z : _≡_ {A = ℕ} 0 1 = cc in omega arith)
+also-nowhere true b nowhere e = absurd (no-confusion (cc))
+also-nowhere true b (only c) e = absurd (no-confusion (cc))
+also-nowhere true b several e = absurd (no-confusion (cc))
 
 also-only : (t : Bool) (b : ℕ) (x : Found) (c : ℕ) → also t b x ≡ only c → ((t ≡ false) × (x ≡ only c)) ⊎ ((t ≡ true) × (x ≡ nowhere) × (b ≡ c))
 unfolding also
 also-only false b x c e = inl (refl, e)
 also-only true b nowhere c e = inr (refl, refl, cc)
-also-only true b (only d) c e = absurd (let z : _≡_ {A = ℕ} 0 1 = cc in omega arith)
-also-only true b several c e = absurd (let z : _≡_ {A = ℕ} 0 1 = cc in omega arith)
+also-only true b (only d) c e = absurd (no-confusion (cc))
+also-only true b several c e = absurd (no-confusion (cc))
 
 -- none passes
 pub nowhere-find : (n : ℕ) (f : ℕ → Bool) → find n f ≡ nowhere → (i : ℕ) → i < n → f i ≡ false
@@ -115,7 +119,7 @@ pub record Unique (n : ℕ) (f : ℕ → Bool) (b : ℕ) : Type 0 where
 
 pub only-find : (n : ℕ) (f : ℕ → Bool) (b : ℕ) → find n f ≡ only b → Unique n f b
 unfolding find
-only-find zero f b e = absurd (let z : _≡_ {A = ℕ} 0 1 = cc in omega arith)
+only-find zero f b e = absurd (no-confusion (cc))
 only-find (suc n) f b e = go (λ c. only-find n f b c) (also-only (f n) n (find n f) b e)
   where
     go : (find n f ≡ only b → Unique n f b) → ((f n ≡ false) × (find n f ≡ only b)) ⊎ ((f n ≡ true) × (find n f ≡ nowhere) × (n ≡ b))
@@ -175,7 +179,7 @@ pub record Passes (n : ℕ) (f : ℕ → Bool) (b : ℕ) : Type 0 where
 
 pub highest-is : (n : ℕ) (f : ℕ → Bool) (b : ℕ) → highest n f ≡ some b → Passes n f b
 unfolding highest
-highest-is zero f b e = absurd (let z : _≡_ {A = ℕ} 0 1 = cc in omega arith)
+highest-is zero f b e = absurd (no-confusion (cc))
 highest-is (suc n) f b e = go (λ q. highest-is n f b q) (f n) refl
   where
     go : (highest n f ≡ some b → Passes n f b) → (t : Bool) → f n ≡ t → Passes (suc n) f b

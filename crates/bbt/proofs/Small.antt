@@ -28,10 +28,8 @@ use Rattle.bbt.specs.Regions.{Region, view, statusAt, bytesAt}
 use Rattle.bbt.proofs.LeftPages.{Judged, version-byte, length-imageData, chunk-length}
 use Rattle.bbt.proofs.Numbering.{stepsFrom, Tracked}
 use Rattle.bbt.proofs.Planning.{plan-asked}
+use Rattle.bbt.proofs.Searches.{no-confusion}
 use Rattle.bbt.proofs.Updating.{updated-small}
-
-no-confusion : _≡_ {A = ℕ} 0 1 → ⊥
-no-confusion e = omega arith
 
 -- ---- lists
 abbrev pub Small : List ℕ → Type 0
