@@ -4,3 +4,4 @@ pub mod Raw
 pub mod Views
 pub mod Dependence
 pub mod Bitmaps
+pub mod Parting
