@@ -1,9 +1,10 @@
-pub mod ToldSteps
 pub mod Searches
+pub mod ToldSteps
+pub mod Bitmaps
+pub mod Parting
 pub mod Raw
 pub mod Views
 pub mod Dependence
-pub mod Bitmaps
 pub mod LeftPages
 pub mod Blocks
 pub mod Forms

@@ -1,2 +1,7 @@
 pub mod Keeping
+pub mod Working
 pub mod Answering
+pub mod Asking
+pub mod Paging
+pub mod Parts
+pub mod Imaging

@@ -1,16 +1,23 @@
-// The code that plans updates and recoveries of the pair of tables.
+// The code that plans updates and recoveries of the pair of tables, and makes the page images of their writes. By the pair's case a call
+// comes to a work, and its plan and its page images go by the work.
 ghost use mathlib.Core.Path.{_≡_};
 ghost use Prim.Native.Nat.{_*_, _<_, _≤_};
-ghost use lib.ListN.{length};
-ghost use Rattle.bbt.specs.Plans.{for-update, for-recovery, nextVersion, holds, updateFrom, plan, double, otherKind, anded, recoverNewer};
+ghost use lib.ListN.{length, replicate, take};
+ghost use Rattle.bbt.specs.Images.{chunk, planImage};
+ghost use Rattle.bbt.specs.Plans.{for-update, for-recovery, nextVersion, holds, updateFrom, otherKind};
 ghost use Rattle.bbt.specs.Stored.{storedParts, storedTable};
+ghost use Rattle.bbt.specs.Told.{chipBlock};
 ghost use Rattle.bitmap.specs.Made.{keeps};
 ghost use Rattle.chip.specs.Large.{bitmapBytes, pagesOf};
-ghost use Rattle.plan.specs.Answers.{toldAnswer, missingAnswer, planAnswer};
+ghost use Rattle.plan.specs.Answers.{toldAnswer, planAnswer};
+ghost use Rattle.plan.specs.PageImages.{imageInto, answerBy, roomBy, pageCase, pageAnswer, pageAfter};
+ghost use Rattle.plan.specs.Works.{updateWork, missingWork, newerWork, recoveryWork, workAnswer, workBitmap, Sourced};
 use bbt::Kind;
 use bbt::PairCase;
 use bbt::Plan;
 use bbt::Shape;
+use bbt::Step;
+use chip::ChipAnswer;
 use chip::LargeChip;
 use chip::Refusal;
 use chip::RegionBlock;
@@ -22,6 +29,79 @@ use region::TargetAnswer;
 pub enum PlanAnswer {
     Planned(Plan),
     Refused(Refusal),
+}
+
+// What a call comes to by the pair's case.
+enum Work {
+    // nothing, and why
+    Refused(Refusal),
+    // no step; this block's version is kept
+    Keep(RegionBlock),
+    // the update rule on the table of the first block, for primary's block and mirror's
+    Update(RegionBlock, RegionBlock),
+    // a copy of this kind, from the first block to the second
+    Copy(Kind, RegionBlock, RegionBlock),
+    // both bitmaps ANDed, for primary's block and mirror's
+    Merge(RegionBlock, RegionBlock),
+}
+
+// What an update comes to: the pair has to be settled.
+fn update_work(c: PairCase) -> Work
+    ensures { λ r. ⌜ r ≡ updateWork c ⌝ }
+{
+    match c {
+        PairCase::Refused(r) => Work::Refused(r),
+        PairCase::Alone(_, _) => Work::Refused(Refusal::NotSettled),
+        PairCase::Settled(p, m) => Work::Update(p, m),
+        PairCase::Merging(_, _) => Work::Refused(Refusal::NotSettled),
+        PairCase::Differing(_, _, _) => Work::Refused(Refusal::NotSettled),
+    }
+}
+
+// The kind that is missing beside a good one.
+fn other_kind(kind: Kind) -> Kind
+    ensures { λ r. ⌜ r ≡ otherKind kind ⌝ }
+{
+    match kind {
+        Kind::Primary => Kind::Mirror,
+        Kind::Mirror => Kind::Primary,
+        Kind::Neither => Kind::Neither,
+    }
+}
+
+// Only one kind is good: the other is copied to the target.
+fn missing_work(kind: Kind, g: RegionBlock, found: TargetAnswer) -> Work
+    ensures { λ r. ⌜ r ≡ missingWork kind g found ⌝ }
+{
+    match found {
+        TargetAnswer::Missing => Work::Refused(Refusal::NoTarget),
+        TargetAnswer::Found(b) => Work::Copy(other_kind(kind), g, b),
+    }
+}
+
+// The older copy is written anew from the newer: the sign of d tells which.
+fn newer_work(d: i32, p: RegionBlock, m: RegionBlock) -> Work
+    ensures { λ r. ⌜ r ≡ newerWork d p m ⌝ }
+{
+    if d < 0 {
+        return Work::Copy(Kind::Primary, m, p);
+    }
+    Work::Copy(Kind::Mirror, p, m)
+}
+
+// What a recovery comes to.
+fn recovery_work(n: u64, image: &[u8], status: &[u8], c: PairCase) -> Work
+    ensures { λ r. ⌜ r ≡ recoveryWork n (now (image .entry)) (now (status .entry)) c ⌝ }
+{
+    match c {
+        PairCase::Refused(r) => Work::Refused(r),
+        PairCase::Alone(kind, g) => {
+            missing_work(kind, g, region::find_target(n, image, status, g))
+        }
+        PairCase::Settled(p, _) => Work::Keep(p),
+        PairCase::Merging(p, m) => Work::Merge(p, m),
+        PairCase::Differing(d, p, m) => newer_work(d, p, m),
+    }
 }
 
 // Version plus 1 modulo 256.
@@ -42,6 +122,22 @@ fn planned(chip: LargeChip, version: u8, shape: Shape) -> PlanAnswer
     })
 }
 
+// Page p's bytes of a lent bitmap.
+fn chunk_of(bitmap: &[u8], p: u8) -> &[u8]
+    ensures { λ r. ⌜ now r ≡ chunk p (now (bitmap .entry)) ⌝ }
+{
+    let n = bitmap.len();
+    let at = LargeChip::PAGE * (p as usize);
+    if n <= at {
+        return &bitmap[0..0];
+    }
+    let end = at + LargeChip::PAGE;
+    if n < end {
+        return &bitmap[at..n];
+    }
+    &bitmap[at..end]
+}
+
 // Does the update rule keep the table of a block as it is?
 fn keeps_table(chip: LargeChip, image: &[u8], b: RegionBlock, wanted: &[u8]) -> bool
     requires { ⌜ (chip .region * pagesOf chip * 2112 ≤ length (now image)) × (b .0 < chip .region) × (length (now wanted) ≡ bitmapBytes chip) ⌝ }
@@ -49,18 +145,22 @@ fn keeps_table(chip: LargeChip, image: &[u8], b: RegionBlock, wanted: &[u8]) -> 
 {
     let pages = chip.pages();
     let mut kept = true;
-    let mut from: usize = 0;
     let mut p: u8 = 0;
     while (p as usize) < pages {
-        let old = region::part(chip, image, b, p);
-        let end = from + old.len();
-        if !bitmap::keeps_old(old, &wanted[from..end]) {
+        if !bitmap::keeps_old(region::part(chip, image, b, p), chunk_of(wanted, p)) {
             kept = false;
         }
-        from = end;
         p += 1;
     }
     kept
+}
+
+// A plan that writes both copies with the version after this one.
+fn both_planned(chip: LargeChip, version: u8, p: RegionBlock, m: RegionBlock) -> PlanAnswer
+    ensures { λ r. ⌜ r ≡ PlanAnswer.Planned (record { version = nextVersion version; pages = pagesOf chip; shape = Shape.Both (chipBlock chip (p .0)) (chipBlock chip (m .0)) }) ⌝ }
+{
+    let both = Shape::Both(bbt::chip_block(chip, p), bbt::chip_block(chip, m));
+    planned(chip, next_version(version), both)
 }
 
 // The update of a settled pair: nothing where the new table equals the old, else both copies with version plus 1.
@@ -78,8 +178,24 @@ fn settled_update(
     if keeps_table(chip, image, p, wanted) {
         return planned(chip, v, Shape::Empty);
     }
-    let both = Shape::Both(bbt::chip_block(chip, p), bbt::chip_block(chip, m));
-    planned(chip, next_version(v), both)
+    both_planned(chip, v, p, m)
+}
+
+// The plan of a work.
+fn plan_of(chip: LargeChip, image: &[u8], wanted: &[u8], work: Work) -> PlanAnswer
+    requires { ⌜ Sourced chip (length (now image)) (length (now wanted)) work ⌝ }
+    ensures { λ r. ⌜ r ≡ toldAnswer chip (workAnswer chip (now (image .entry)) (now (wanted .entry)) work) ⌝ }
+{
+    match work {
+        Work::Refused(r) => PlanAnswer::Refused(r),
+        Work::Keep(b) => planned(chip, region::version(chip, image, b), Shape::Empty),
+        Work::Update(p, m) => settled_update(chip, image, p, m, wanted),
+        Work::Copy(kind, from, to) => {
+            let one = Shape::One(kind, bbt::chip_block(chip, to));
+            planned(chip, region::version(chip, image, from), one)
+        }
+        Work::Merge(p, m) => both_planned(chip, region::version(chip, image, p), p, m),
+    }
 }
 
 // Plans an update of the pair to a wanted bitmap.
@@ -88,64 +204,8 @@ pub fn update_plan(n: u64, image: &[u8], status: &[u8], wanted: &[u8]) -> PlanAn
 {
     match region::case_of(n, Beside::Bitmap(wanted.len()), image, status) {
         LentCase::Refused(r) => PlanAnswer::Refused(r),
-        LentCase::Case(chip, c) => match c {
-            PairCase::Refused(r) => PlanAnswer::Refused(r),
-            PairCase::Alone(_, _) => PlanAnswer::Refused(Refusal::NotSettled),
-            PairCase::Settled(p, m) => settled_update(chip, image, p, m, wanted),
-            PairCase::Merging(_, _) => PlanAnswer::Refused(Refusal::NotSettled),
-            PairCase::Differing(_, _, _) => PlanAnswer::Refused(Refusal::NotSettled),
-        },
+        LentCase::Case(chip, c) => plan_of(chip, image, wanted, update_work(c)),
     }
-}
-
-// The kind that is missing beside a good one.
-fn other_kind(kind: Kind) -> Kind
-    ensures { λ r. ⌜ r ≡ otherKind kind ⌝ }
-{
-    match kind {
-        Kind::Primary => Kind::Mirror,
-        Kind::Mirror => Kind::Primary,
-        Kind::Neither => Kind::Neither,
-    }
-}
-
-// Writes the missing kind to the target, with the good copy's version.
-fn recover_missing(chip: LargeChip, version: u8, kind: Kind, found: TargetAnswer) -> PlanAnswer
-    ensures { λ r. ⌜ r ≡ missingAnswer chip version kind found ⌝ }
-{
-    match found {
-        TargetAnswer::Missing => PlanAnswer::Refused(Refusal::NoTarget),
-        TargetAnswer::Found(b) => {
-            let one = Shape::One(other_kind(kind), bbt::chip_block(chip, b));
-            planned(chip, version, one)
-        }
-    }
-}
-
-// Writes the older copy anew with the newer's table: the sign of d tells which.
-fn recover_older(
-    chip: LargeChip,
-    image: &[u8],
-    d: i32,
-    p: RegionBlock,
-    m: RegionBlock,
-) -> PlanAnswer
-    ensures { λ r. ⌜ r ≡ toldAnswer chip (recoverNewer d (storedTable chip (now (image .entry)) (p .0)) (storedTable chip (now (image .entry)) (m .0)) (p .0) (m .0)) ⌝ }
-{
-    if d < 0 {
-        let older = Shape::One(Kind::Primary, bbt::chip_block(chip, p));
-        return planned(chip, region::version(chip, image, m), older);
-    }
-    let older = Shape::One(Kind::Mirror, bbt::chip_block(chip, m));
-    planned(chip, region::version(chip, image, p), older)
-}
-
-// Writes both copies anew with version plus 1.
-fn recover_both(chip: LargeChip, image: &[u8], p: RegionBlock, m: RegionBlock) -> PlanAnswer
-    ensures { λ r. ⌜ r ≡ toldAnswer chip (plan (double (p .0) (m .0) (anded (storedTable chip (now (image .entry)) (p .0)) (storedTable chip (now (image .entry)) (m .0))))) ⌝ }
-{
-    let both = Shape::Both(bbt::chip_block(chip, p), bbt::chip_block(chip, m));
-    planned(chip, next_version(region::version(chip, image, p)), both)
 }
 
 // Plans a recovery of the pair.
@@ -154,17 +214,157 @@ pub fn recovery_plan(n: u64, image: &[u8], status: &[u8]) -> PlanAnswer
 {
     match region::case_of(n, Beside::Nothing, image, status) {
         LentCase::Refused(r) => PlanAnswer::Refused(r),
-        LentCase::Case(chip, c) => match c {
-            PairCase::Refused(r) => PlanAnswer::Refused(r),
-            PairCase::Alone(kind, g) => {
-                let found = region::find_target(n, image, status, g);
-                recover_missing(chip, region::version(chip, image, g), kind, found)
+        LentCase::Case(chip, c) => {
+            let work = recovery_work(n, image, status, c);
+            plan_of(chip, image, &image[0..0], work)
+        }
+    }
+}
+
+// Fills a page with FF, as an erase leaves it.
+fn blank(page: &mut [u8])
+    ensures { λ _. ⌜ now (page .exit) ≡ replicate (length (now (page .entry))) 255 ⌝ }
+{
+    let mut i: usize = 0;
+    while i < page.len() {
+        page[i] = 0xFF;
+        i += 1;
+    }
+}
+
+// The image of a page of a copy, from its part of the table, its kind and its version. Nothing is done where the page has not 2,112 bytes,
+// or the part has more than 2,048.
+pub fn page_image(part: &[u8], kind: Kind, version: u8, page: &mut [u8])
+    ensures { λ _. ⌜ now (page .exit) ≡ imageInto kind version (now (part .entry)) (now (page .entry)) ⌝ }
+{
+    if page.len() != LargeChip::PAGE_WITH_OOB {
+        return;
+    }
+    let n = part.len();
+    if LargeChip::PAGE < n {
+        return;
+    }
+    blank(page);
+    bits::copy(part, &mut page[0..n]);
+    let s = bits::bytes_of(kind.signature());
+    let tail = [s[0], s[1], s[2], s[3], version];
+    bits::copy(&tail, &mut page[2062..2067]);
+}
+
+// The new table's bytes of page p, put first into `out`; how many there are.
+fn new_part(
+    chip: LargeChip,
+    image: &[u8],
+    wanted: &[u8],
+    work: Work,
+    p: u8,
+    out: &mut [u8],
+) -> usize
+    requires { ⌜ Sourced chip (length (now image)) (length (now wanted)) work × (length (now out) ≡ 2048) ⌝ }
+    ensures { λ r. ⌜ (r ≤ 2048) × (take r (now (out .exit)) ≡ chunk p (workBitmap chip (now (image .entry)) (now (wanted .entry)) work)) ⌝ }
+{
+    match work {
+        Work::Refused(_) => 0,
+        Work::Keep(_) => 0,
+        Work::Update(b, _) => {
+            let old = region::part(chip, image, b, p);
+            let n = old.len();
+            bitmap::update_into(old, chunk_of(wanted, p), &mut out[0..n]);
+            n
+        }
+        Work::Copy(_, b, _) => {
+            let old = region::part(chip, image, b, p);
+            let n = old.len();
+            bits::copy(old, &mut out[0..n]);
+            n
+        }
+        Work::Merge(x, y) => {
+            let old = region::part(chip, image, x, p);
+            let n = old.len();
+            bitmap::and_into(old, region::part(chip, image, y, p), &mut out[0..n]);
+            n
+        }
+    }
+}
+
+// What asking for a page image answers.
+pub enum PageAnswer {
+    Made,
+    Refused(Refusal),
+}
+
+// The page image of a work's step.
+fn page_of(
+    chip: LargeChip,
+    image: &[u8],
+    wanted: &[u8],
+    work: Work,
+    step: u64,
+    page: &mut [u8],
+) -> PageAnswer
+    requires { ⌜ Sourced chip (length (now image)) (length (now wanted)) work × (length (now page) ≡ 2112) ⌝ }
+    ensures answer { λ r. ⌜ r ≡ answerBy (planImage chip (workAnswer chip (now (image .entry)) (now (wanted .entry)) work) step) ⌝ }
+    ensures out { λ _. ⌜ now (page .exit) ≡ roomBy (planImage chip (workAnswer chip (now (image .entry)) (now (wanted .entry)) work) step) (now (page .entry)) ⌝ }
+{
+    match plan_of(chip, image, wanted, work) {
+        PlanAnswer::Refused(r) => PageAnswer::Refused(r),
+        PlanAnswer::Planned(plan) => {
+            let version = plan.version;
+            match plan.step(step) {
+                Step::Erase(_) => PageAnswer::Refused(Refusal::Range),
+                Step::Past => PageAnswer::Refused(Refusal::Range),
+                Step::Write(_, p, kind) => {
+                    let mut part = [0u8; 2048];
+                    let n = new_part(chip, image, wanted, work, p, &mut part);
+                    page_image(&part[0..n], kind, version, page);
+                    PageAnswer::Made
+                }
             }
-            PairCase::Settled(p, _) => {
-                planned(chip, region::version(chip, image, p), Shape::Empty)
-            }
-            PairCase::Merging(p, m) => recover_both(chip, image, p, m),
-            PairCase::Differing(d, p, m) => recover_older(chip, image, d, p, m),
-        },
+        }
+    }
+}
+
+// The pair's case where room for a page is lent too: N is judged, then lengths, then status bytes.
+fn page_case(n: u64, beside: Beside, image: &[u8], status: &[u8], room: usize) -> LentCase
+    ensures { λ r. ⌜ r ≡ pageCase n beside (now (image .entry)) (now (status .entry)) room ⌝ }
+{
+    if room == LargeChip::PAGE_WITH_OOB {
+        return region::case_of(n, beside, image, status);
+    }
+    match LargeChip::new(n) {
+        ChipAnswer::Refused(r) => LentCase::Refused(r),
+        ChipAnswer::Chip(_) => LentCase::Refused(Refusal::Length),
+    }
+}
+
+// The page image of a step of an update's plan, by the snapshot that the plan was made from.
+pub fn update_page(
+    n: u64,
+    image: &[u8],
+    status: &[u8],
+    wanted: &[u8],
+    step: u64,
+    page: &mut [u8],
+) -> PageAnswer
+    ensures answer { λ r. ⌜ r ≡ pageAnswer n (for-update (now (wanted .entry))) (now (image .entry)) (now (status .entry)) step (now (page .entry)) ⌝ }
+    ensures out { λ _. ⌜ now (page .exit) ≡ pageAfter n (for-update (now (wanted .entry))) (now (image .entry)) (now (status .entry)) step (now (page .entry)) ⌝ }
+{
+    match page_case(n, Beside::Bitmap(wanted.len()), image, status, page.len()) {
+        LentCase::Refused(r) => PageAnswer::Refused(r),
+        LentCase::Case(chip, c) => page_of(chip, image, wanted, update_work(c), step, page),
+    }
+}
+
+// The page image of a step of a recovery's plan, by the snapshot that the plan was made from.
+pub fn recovery_page(n: u64, image: &[u8], status: &[u8], step: u64, page: &mut [u8]) -> PageAnswer
+    ensures answer { λ r. ⌜ r ≡ pageAnswer n for-recovery (now (image .entry)) (now (status .entry)) step (now (page .entry)) ⌝ }
+    ensures out { λ _. ⌜ now (page .exit) ≡ pageAfter n for-recovery (now (image .entry)) (now (status .entry)) step (now (page .entry)) ⌝ }
+{
+    match page_case(n, Beside::Nothing, image, status, page.len()) {
+        LentCase::Refused(r) => PageAnswer::Refused(r),
+        LentCase::Case(chip, c) => {
+            let work = recovery_work(n, image, status, c);
+            page_of(chip, image, &image[0..0], work, step, page)
+        }
     }
 }

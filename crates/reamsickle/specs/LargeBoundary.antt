@@ -6,6 +6,7 @@ use Prim.Native.Nat.{ℕ, _+_, _*_, _/_, _%_}
 use lib.Dec.{eqb}
 use lib.ListN.{length, drop}
 use Rattle.bbt.specs.Lent.{onChip}
+use Rattle.bbt.specs.Plans.{Call}
 use Rattle.bbt.specs.Told.{toldSteps}
 use Rattle.bbt.specs.declared.Step.{Step}
 use Rattle.bbt.specs.declared.Step.the-variants.{Erase, Write, Past}
@@ -14,6 +15,9 @@ use Rattle.bitmap.specs.declared.BitmapAnswer.{BitmapAnswer}
 use Rattle.bitmap.specs.declared.BitmapAnswer.the-variants.{Made, Refused as NotMade}
 use Rattle.chip.specs.Large.{chipOf}
 use Rattle.chip.specs.declared.Refusal.the-variants.{Length}
+use Rattle.plan.specs.PageImages.{pageAnswer}
+use Rattle.plan.specs.declared.PageAnswer.{PageAnswer as ImageAnswer}
+use Rattle.plan.specs.declared.PageAnswer.the-variants.{Made as ImageMade, Refused as NoImage}
 use Rattle.plan.specs.declared.PlanAnswer.{PlanAnswer}
 use Rattle.plan.specs.declared.PlanAnswer.the-variants.{Planned, Refused as NotPlanned}
 use Rattle.region.specs.Tables.{tableAnswer}
@@ -76,3 +80,11 @@ stepsAfter n a room = onChip (λ r. room) (chipOf n) (λ chip. cond (eqb (length
 abbrev pub roomOf : PlanAnswer → ℕ
 roomOf (Planned q) = 4 * length (toldSteps q)
 roomOf (NotPlanned r) = 0
+
+-- ---- ream_update_page, ream_recovery_page
+abbrev pub pageImageCodeBy : ImageAnswer → ℕ
+pageImageCodeBy ImageMade = 0
+pageImageCodeBy (NoImage r) = refusalCode r
+
+unfoldable pub pageImageCode : ℕ → Call → List ℕ → List ℕ → ℕ → List ℕ → ℕ
+pageImageCode n call image status i room = pageImageCodeBy (pageAnswer n call image status i room)

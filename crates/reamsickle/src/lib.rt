@@ -8,7 +8,8 @@ ghost use Rattle.bitmap.specs.Made.{firstAfter};
 ghost use Rattle.bits.specs.Bytes.{copied};
 ghost use Rattle.reamsickle.specs.Boundary.{refusalCode, fieldBytes, halfCode, halfCodeAfter, writeCode, spareCode, spareFieldsAfter, pageCode, pageDataAfter, pageFieldsAfter};
 ghost use Rattle.plan.specs.Answers.{planAnswer};
-ghost use Rattle.reamsickle.specs.LargeBoundary.{firstCode, tableCode, stepBytes, stepsPut, planCode, stepsAfter, roomOf};
+ghost use Rattle.plan.specs.PageImages.{pageAfter};
+ghost use Rattle.reamsickle.specs.LargeBoundary.{firstCode, tableCode, stepBytes, stepsPut, planCode, stepsAfter, roomOf, pageImageCodeBy, pageImageCode};
 ghost use Rattle.region.specs.Tables.{tableAfter};
 ghost use Rattle.spare.specs.Writing.{spareAfter};
 use bbt::Plan;
@@ -230,4 +231,45 @@ pub extern "C" fn ream_recovery_plan(n: u64, image: &[u8], status: &[u8], steps:
     ensures out { λ _. ⌜ now (steps .exit) ≡ stepsAfter n (planAnswer n for-recovery (now (image .entry)) (now (status .entry))) (now (steps .entry)) ⌝ }
 {
     tell_plan(n, plan::recovery_plan(n, image, status), steps)
+}
+
+// What asking for a page image answered, as a number.
+fn image_code(answer: plan::PageAnswer) -> u64
+    ensures { λ r. ⌜ r ≡ pageImageCodeBy answer ⌝ }
+{
+    match answer {
+        plan::PageAnswer::Made => 0,
+        plan::PageAnswer::Refused(r) => refusal_code(r),
+    }
+}
+
+// The page image of a step of an update's plan: what the plan was made from and the step's number in, 2,112 bytes out.
+#[no_mangle]
+pub extern "C" fn ream_update_page(
+    n: u64,
+    image: &[u8],
+    status: &[u8],
+    wanted: &[u8],
+    step: u64,
+    page: &mut [u8],
+) -> u64
+    ensures answer { λ r. ⌜ r ≡ pageImageCode n (for-update (now (wanted .entry))) (now (image .entry)) (now (status .entry)) step (now (page .entry)) ⌝ }
+    ensures out { λ _. ⌜ now (page .exit) ≡ pageAfter n (for-update (now (wanted .entry))) (now (image .entry)) (now (status .entry)) step (now (page .entry)) ⌝ }
+{
+    image_code(plan::update_page(n, image, status, wanted, step, page))
+}
+
+// The page image of a step of a recovery's plan: what the plan was made from and the step's number in, 2,112 bytes out.
+#[no_mangle]
+pub extern "C" fn ream_recovery_page(
+    n: u64,
+    image: &[u8],
+    status: &[u8],
+    step: u64,
+    page: &mut [u8],
+) -> u64
+    ensures answer { λ r. ⌜ r ≡ pageImageCode n for-recovery (now (image .entry)) (now (status .entry)) step (now (page .entry)) ⌝ }
+    ensures out { λ _. ⌜ now (page .exit) ≡ pageAfter n for-recovery (now (image .entry)) (now (status .entry)) step (now (page .entry)) ⌝ }
+{
+    image_code(plan::recovery_page(n, image, status, step, page))
 }

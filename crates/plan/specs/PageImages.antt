@@ -1,0 +1,47 @@
+-- Document 01: page images, 2,112 bytes each, are asked for by step number from the snapshot that the plan was made from.
+use mathlib.Core.Bool.{cond, _&&_}
+use mathlib.Core.List.{List}
+use Prim.Native.Nat.{ℕ}
+use lib.Dec.{eqb, leb}
+use lib.ListN.{length}
+use Rattle.bbt.specs.Images.{Imaged, no-image, page-image, pageImage}
+use Rattle.bbt.specs.Lent.{onChip, imaged}
+use Rattle.bbt.specs.Plans.{Call}
+use Rattle.bbt.specs.declared.Kind.{Kind}
+use Rattle.chip.specs.Large.{chipOf}
+use Rattle.chip.specs.declared.Refusal.the-variants.{Length}
+use Rattle.plan.specs.declared.PageAnswer.{PageAnswer}
+use Rattle.plan.specs.declared.PageAnswer.the-variants.{Made, Refused}
+use Rattle.region.specs.Cases.{lentCase}
+use Rattle.region.specs.declared.Beside.{Beside}
+use Rattle.region.specs.declared.LentCase.{LentCase}
+use Rattle.region.specs.declared.LentCase.the-variants.{Refused as NoCase}
+
+-- a page of 2,112 bytes after the image of a part of at most 2,048 bytes was put into it; of other lengths, nothing is
+unfoldable pub imageInto : Kind → ℕ → List ℕ → List ℕ → List ℕ
+imageInto k v part page = cond (eqb (length page) 2112 && leb (length part) 2048) (pageImage k v part) page
+
+-- N first (2), then room for a page (1), then the image of step i of the plan; its own refusal comes last
+unfoldable pub asked : ℕ → Call → List ℕ → List ℕ → ℕ → List ℕ → Imaged
+asked n call image status i room =
+    cond (eqb (length room) 2112) (imaged n call image status i) (onChip no-image (chipOf n) (λ chip. no-image Length))
+
+-- what is answered, and the lent room after it: as it was beside a refusal
+abbrev pub answerBy : Imaged → PageAnswer
+answerBy (no-image r) = Refused r
+answerBy (page-image bytes) = Made
+
+abbrev pub roomBy : Imaged → List ℕ → List ℕ
+roomBy (no-image r) room = room
+roomBy (page-image bytes) room = bytes
+
+unfoldable pub pageAnswer : ℕ → Call → List ℕ → List ℕ → ℕ → List ℕ → PageAnswer
+pageAnswer n call image status i room = answerBy (asked n call image status i room)
+
+unfoldable pub pageAfter : ℕ → Call → List ℕ → List ℕ → ℕ → List ℕ → List ℕ
+pageAfter n call image status i room = roomBy (asked n call image status i room) room
+
+-- the pair's case, judged in that order, with this much room for a page
+unfoldable pub pageCase : ℕ → Beside → List ℕ → List ℕ → ℕ → LentCase
+pageCase n beside image status room =
+    cond (eqb room 2112) (lentCase n beside image status) (onChip NoCase (chipOf n) (λ chip. NoCase Length))
