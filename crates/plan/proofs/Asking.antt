@@ -20,7 +20,7 @@ use Rattle.chip.specs.declared.Refusal.{Refusal}
 use Rattle.chip.specs.declared.Refusal.the-variants.{Length}
 use Rattle.plan.proofs.Answering.{by-out, by-work, answer-sourced}
 use Rattle.plan.proofs.Working.{besideOf, wantedOf, workOf}
-use Rattle.plan.specs.PageImages.{asked, answerBy, roomBy, pageAnswer, pageAfter, pageCase}
+use Rattle.plan.specs.PageImages.{lentImage, answerBy, roomBy, pageAnswer, pageAfter, pageCase}
 use Rattle.plan.specs.Works.{workAnswer, Sourced}
 use Rattle.plan.specs.declared.PageAnswer.{PageAnswer}
 use Rattle.plan.specs.declared.PageAnswer.the-variants.{Refused}
@@ -54,8 +54,8 @@ pub by-same : {r : PageAnswer} {after : List ℕ} {x y : Imaged} (room : List �
 by-same room w e = (w .0 ∙ ap answerBy (sym e), w .1 ∙ ap (λ (z : Imaged). roomBy z room) (sym e))
 
 module _ (call : Call) (n : ℕ) (image status : List ℕ) (i : ℕ) (room : List ℕ) where
-  asked-out : (r : Refusal) → pageCase n (besideOf call) image status (length room) ≡ NoCase r → asked n call image status i room ≡ no-image r
-  unfolding pageCase asked imaged planImage
+  asked-out : (r : Refusal) → pageCase n (besideOf call) image status (length room) ≡ NoCase r → lentImage n call image status i room ≡ no-image r
+  unfolding pageCase lentImage imaged planImage
   asked-out r e = go (eqb (length room) 2112) e
     where
       no-room : (a : ChipAnswer) → onChip NoCase a (λ own. NoCase Length) ≡ NoCase r → onChip no-image a (λ own. no-image Length) ≡ no-image r
@@ -69,8 +69,8 @@ module _ (call : Call) (n : ℕ) (image status : List ℕ) (i : ℕ) (room : Lis
 
   asked-work : (chip : LargeChip) (c : PairCase) → pageCase n (besideOf call) image status (length room) ≡ TheCase chip c
       → (work : Work) → work ≡ workOf call n image status c
-      → asked n call image status i room ≡ planImage chip (workAnswer chip image (wantedOf call) work) i
-  unfolding asked imaged planImage
+      → lentImage n call image status i room ≡ planImage chip (workAnswer chip image (wantedOf call) work) i
+  unfolding lentImage imaged planImage
   asked-work chip c e work w =
       let lent = room-right n (besideOf call) image status (length room) chip c e in
       rw (eq-eqb (length room) 2112 (lent .page))

@@ -5,3 +5,4 @@ pub mod Asking
 pub mod Paging
 pub mod Parts
 pub mod Imaging
+pub mod Bridge

@@ -1,3 +1,4 @@
 pub mod Works
 pub mod Answers
 pub mod PageImages
+pub mod Bridge

@@ -22,8 +22,8 @@ unfoldable pub imageInto : Kind → ℕ → List ℕ → List ℕ → List ℕ
 imageInto k v part page = cond (eqb (length page) 2112 && leb (length part) 2048) (pageImage k v part) page
 
 -- N first (2), then room for a page (1), then the image of step i of the plan; its own refusal comes last
-unfoldable pub asked : ℕ → Call → List ℕ → List ℕ → ℕ → List ℕ → Imaged
-asked n call image status i room =
+unfoldable pub lentImage : ℕ → Call → List ℕ → List ℕ → ℕ → List ℕ → Imaged
+lentImage n call image status i room =
     cond (eqb (length room) 2112) (imaged n call image status i) (onChip no-image (chipOf n) (λ chip. no-image Length))
 
 -- what is answered, and the lent room after it: as it was beside a refusal
@@ -36,10 +36,10 @@ roomBy (no-image r) room = room
 roomBy (page-image bytes) room = bytes
 
 unfoldable pub pageAnswer : ℕ → Call → List ℕ → List ℕ → ℕ → List ℕ → PageAnswer
-pageAnswer n call image status i room = answerBy (asked n call image status i room)
+pageAnswer n call image status i room = answerBy (lentImage n call image status i room)
 
 unfoldable pub pageAfter : ℕ → Call → List ℕ → List ℕ → ℕ → List ℕ → List ℕ
-pageAfter n call image status i room = roomBy (asked n call image status i room) room
+pageAfter n call image status i room = roomBy (lentImage n call image status i room) room
 
 -- the pair's case, judged in that order, with this much room for a page
 unfoldable pub pageCase : ℕ → Beside → List ℕ → List ℕ → ℕ → LentCase

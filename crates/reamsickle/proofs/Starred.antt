@@ -1,10 +1,9 @@
 -- The starred examples hold: antt computes each. The bytes of a path or a count are those of its protected word.
 -- Assumes nothing.
 use mathlib.Core.List.{List}
-use mathlib.Core.Path.{_≡_, refl, _∙_}
+use mathlib.Core.Path.{_≡_, refl}
 use Prim.Native.Nat.{ℕ}
 use lib.Count.{ones, onesIn}
-use lib.ListN.{take}
 use Rattle.bbt.specs.Pairs.{signedOf, difference, bothCase, compared}
 use Rattle.bbt.specs.Plans.{recoverCase}
 use Rattle.bits.specs.Bits.{bit, number, parityOf}
@@ -12,7 +11,7 @@ use Rattle.bits.specs.Bytes.{wordBytes}
 use Rattle.chip.specs.Boot.{pathOf}
 use Rattle.ecc.specs.Half.{placeBit, counts, parity, codeBit, codeFrom}
 use Rattle.hamming.specs.Word.{notPowers, houseNumbers, checkBit, checkBits, encoded}
-use Rattle.reamsickle.specs.Examples.{Holds, path, count, countBytes, All, table}
+use Rattle.reamsickle.specs.Examples.{Holds, path, count, All, table}
 use Rattle.spare.specs.Tags.{nearest}
 use Rattle.spare.specs.Writing.{spareOf, magicAndCount}
 

@@ -1,7 +1,6 @@
 -- `ream_half_code` meets its contract: its tests are those of `isHalf`.
 -- Assumes nothing.
 use mathlib.Core.Path.{refl, _∙_}
-use native.Mathlib.Omega.{arith}
 use borrow.Author.Tests.{eq-eqb, ne-eqb}
 use Rattle.bits.proofs.Filling.{copied-same}
 use Rattle.reamsickle.specs.Boundary.{isHalf, halfCode, halfCodeAfter}

@@ -1,8 +1,6 @@
 -- `step_bytes` meets its contract in each case of the step.
 -- Assumes nothing.
-use mathlib.Core.Path.{refl, ap}
-use Rattle.bbt.specs.declared.Step.{Step}
-use Rattle.reamsickle.specs.LargeBoundary.{stepBytes}
+use mathlib.Core.Path.{refl}
 use borrow.Author.Needs.{needs}
 use Rattle.reamsickle.proofs.step_bytes.Statement.{statement}
 use Rattle.reamsickle.proofs.step_bytes.Tie as tie

@@ -1,0 +1,26 @@
+-- The bridge: both sides judge N and go on with the same definition.
+-- Assumes nothing.
+use mathlib.Core.List.{List}
+use mathlib.Core.Path.{_≡_}
+use Prim.Native.Nat.{ℕ}
+use borrow.Author.Tests.{eq-eqb}
+use lib.ListN.{length}
+use Rattle.bbt.specs.Lent.{planned, imaged}
+use Rattle.bbt.specs.Plans.{Call}
+use Rattle.plan.specs.Answers.{planAnswer}
+use Rattle.plan.specs.Bridge.{Bridged}
+use Rattle.plan.specs.PageImages.{lentImage, pageAnswer, pageAfter}
+
+-- with room for a page, its image is the step's
+room-image : (n : ℕ) (call : Call) (image status : List ℕ) (i : ℕ) (room : List ℕ) → length room ≡ 2112
+    → lentImage n call image status i room ≡ imaged n call image status i
+unfolding lentImage
+room-image n call image status i room h = rw (eq-eqb (length room) 2112 h)
+
+pub bridged : Bridged
+unfolding planAnswer planned pageAnswer pageAfter
+bridged n chip call image status e = record {
+  plans = rw e;
+  answers = λ i room h. rw (room-image n call image status i room h);
+  pages = λ i room h. rw (room-image n call image status i room h);
+}

@@ -1,0 +1,23 @@
+-- The bridge from the histories of demand 3 to the code: the plans and page images that a history asks for (`planned`, `imaged`) are what the
+-- contracts of planning and of page images answer, for every call on the chip of N blocks.
+use mathlib.Core.List.{List}
+use mathlib.Core.Path.{_≡_}
+use Prim.Native.Nat.{ℕ}
+use lib.ListN.{length}
+use Rattle.bbt.specs.Lent.{planned, imaged}
+use Rattle.bbt.specs.Plans.{Call}
+use Rattle.chip.specs.Large.{chipOf}
+use Rattle.chip.specs.declared.ChipAnswer.the-variants.{Chip}
+use Rattle.chip.specs.declared.LargeChip.{LargeChip}
+use Rattle.plan.specs.Answers.{toldAnswer, planAnswer}
+use Rattle.plan.specs.PageImages.{answerBy, roomBy, pageAnswer, pageAfter}
+
+pub record Bridge (n : ℕ) (chip : LargeChip) (call : Call) (image status : List ℕ) : Type 0 where
+  -- the plan or its refusal, told with chip blocks
+  pub plans : planAnswer n call image status ≡ toldAnswer chip (planned n call image status)
+  -- the page of step i or its refusal, where there is room for a page
+  pub answers : (i : ℕ) (room : List ℕ) → length room ≡ 2112 → pageAnswer n call image status i room ≡ answerBy (imaged n call image status i)
+  pub pages : (i : ℕ) (room : List ℕ) → length room ≡ 2112 → pageAfter n call image status i room ≡ roomBy (imaged n call image status i) room
+
+abbrev pub Bridged : Type 0
+Bridged = (n : ℕ) (chip : LargeChip) (call : Call) (image status : List ℕ) → chipOf n ≡ Chip chip → Bridge n chip call image status
