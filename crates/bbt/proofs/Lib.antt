@@ -1,3 +1,4 @@
+-- laws of the rules, that code and other laws cite
 pub mod Searches
 pub mod ToldSteps
 pub mod Bitmaps
@@ -5,6 +6,7 @@ pub mod Parting
 pub mod Raw
 pub mod Views
 pub mod Dependence
+-- demand 3: pages and blocks, the invariant's forms, a copy being written, what is planned, and the theorem
 pub mod LeftPages
 pub mod Blocks
 pub mod Forms
@@ -14,7 +16,9 @@ pub mod Updating
 pub mod Planning
 pub mod Numbering
 pub mod PowerCuts
+-- a plan carried out uncut
 pub mod CarriedOut
+-- that nothing is left out of the histories, and two of them by number
 pub mod Small
 pub mod Putting
 pub mod Possible

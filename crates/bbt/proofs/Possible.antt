@@ -14,10 +14,10 @@ use lib.Seq.{take-at, drop-append-add}
 use Rattle.chip.specs.Large.{pagesOf}
 use Rattle.chip.specs.declared.LargeChip.{LargeChip}
 use Rattle.bbt.specs.declared.Kind.the-variants.{Primary}
-use Rattle.bbt.specs.Histories.{Written, Done, Cut, OthersKept, Last, one-table, pending, closed, Closes, as-one, as-closed, was-complete, was-not, AfterStep, Snapshot, asked, step-done, step-cut}
+use Rattle.bbt.specs.Histories.{Written, Done, Cut, OthersKept, Last, one-table, pending, closed, Closes, as-one, as-closed, was-complete, was-not, AfterStep, Snapshot, asked, step-done, step-cut, begun, Hand, snapshot, answer, holding, empty, world, Event, update-planned, recovery-planned, cut-between}
 use Rattle.bbt.specs.Images.{Imaged, page-image, image}
 use Rattle.bbt.specs.Pairs.{same}
-use Rattle.bbt.specs.Plans.{Step, erase, write, Call, for-update}
+use Rattle.bbt.specs.Plans.{Step, erase, write, Call, for-update, Plan, stepsOf, plan, updated, for-recovery}
 use Rattle.bbt.specs.Possible.{Bytes, Fate, kept, blanked, completed, spoilt, CutAllows, DoneAllows, Met, AllMet, CanHappen, NothingLeftOut}
 use Rattle.bbt.specs.PowerCuts.{Pictures, Harmless}
 use Rattle.bbt.specs.Regions.{Region, statusAt, bytesAt, Blank, Complete, Unreadable, Kept}
@@ -240,6 +240,17 @@ module _ {chip : LargeChip} where
       go (completed oob) ok h = inr (inl (h .0))
       go (spoilt l) ok h = inr (inr (h .0))
 
+  -- ---- plans, and cuts between steps
+  can-plan : Judged chip → (r : Region chip) (h : Hand chip) (l : Last) (call : Call) (q : Plan) → answer call (snapshot r) ≡ plan q
+      → (l′ : Last) × Event r l h (world r (holding call (snapshot r) 0 (stepsOf (pagesOf chip) q)) l′)
+  can-plan ok r h l (for-update w) q e =
+      let s = update-reads ok r w q (plan-asked ok r (for-update w) q e) in
+      (begun (s .2) (updated (s .2) w) q, update-planned w (s .0) (s .1) (s .2) q e (s .3))
+  can-plan ok r h l for-recovery q e = let z = can-close r l in (z .0, recovery-planned q (z .0) e (z .1))
+
+  can-cut : (r : Region chip) (h : Hand chip) (l : Last) → (l′ : Last) × Event r l h (world r empty l′)
+  can-cut r h l = let z = can-close r l in (z .0, cut-between (z .0) (z .1))
+
   can-happen : Judged chip → (r : Region chip) (l : Last) (c : Call) (a : Snapshot chip) (i : ℕ) (e : Step) (es : List Step) → Harmless r e
       → Pictures e (asked c a i) → SmallStep e → CanHappen r l c a i e es
   can-happen ok r l c a i e es h pic sm = record {
@@ -259,6 +270,8 @@ nothing-left-out n chip e = record {
       let t = tracked (started s) h in
       let p = demand3 n chip e .promise s h .next-step in
       can-happen ok r l c a i e′ es (p .0) (p .1 .by-image) (small-next ok e′ t);
+  plans = can-plan ok;
+  cuts = can-cut;
   closes = can-close;
   from-settled = λ r w q a. update-reads ok r w q (plan-asked ok r (for-update w) q a);
 }

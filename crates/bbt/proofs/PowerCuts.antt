@@ -84,12 +84,17 @@ module _ {chip : LargeChip} where
 
   -- the region, the plan in hand and the last update; with the table that is settled if any is, whose entries all later ones keep
   data Mode (r : Region chip) : Hand chip → Last → Table → Type 0 where
+    -- nothing is being written: the region holds the table that the last update left
     resting : {h : Hand chip} {l : Last} {c : Table} → Rests h → Current l c → Sound r c → Mode r h l c
+    -- a recovery is finished: the pair is settled
     recovered : {a : Snapshot chip} {i : ℕ} {l : Last} {c : Table} {p m : ℕ} → Current l c → Sole r Primary p c → Sole r Mirror m c
         → Mode r (holding for-recovery a i []) l c
+    -- a recovery is at work
     recovering : {a : Snapshot chip} {i : ℕ} {es : List Step} {l : Last} {c : Table} → Recovering r es l c → Mode r (holding for-recovery a i es) l c
+    -- an update is at work on the new primary: the old table
     renewing : {v : List ℕ} {a : Snapshot chip} {i : ℕ} {es : List Step} {p : ℕ} {o n : Table} → Renewing r es p o n
         → Mode r (holding (for-update v) a i es) (pending o n p) o
+    -- an update is at work on the mirror: the new table
     copying : {v : List ℕ} {a : Snapshot chip} {i : ℕ} {es : List Step} {p : ℕ} {o n : Table} → Copying r es p n
         → Mode r (holding (for-update v) a i es) (pending o n p) n
 

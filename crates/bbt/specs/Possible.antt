@@ -1,5 +1,6 @@
 -- The histories of demand 3 leave nothing out: at every moment the next step can be done, and can be cut with every outcome that document 01
--- allows, with any bytes where it allows any; the last update can always be closed; and an accepted update was planned from a settled pair.
+-- allows, with any bytes where it allows any; every plan that the library gives can be taken in hand; power can always be cut; the last update
+-- can always be closed; and an accepted update was planned from a settled pair.
 use mathlib.Core.List.{List, _∷_}
 use mathlib.Core.Path.{_≡_}
 use Prim.Native.Nat.{ℕ, suc, _<_}
@@ -8,9 +9,9 @@ use Rattle.chip.specs.Large.{chipOf, pagesOf}
 use Rattle.chip.specs.declared.ChipAnswer.the-variants.{Chip}
 use Rattle.chip.specs.declared.LargeChip.{LargeChip}
 use Rattle.bbt.specs.Copies.{Table}
-use Rattle.bbt.specs.Histories.{Written, Last, Closes, Snapshot, snapshot, answer, asked, holding, empty, World, world, Event, History}
+use Rattle.bbt.specs.Histories.{Written, Last, Closes, Snapshot, Hand, snapshot, answer, asked, holding, empty, World, world, Event, History}
 use Rattle.bbt.specs.Images.{Imaged}
-use Rattle.bbt.specs.Plans.{Step, erase, write, Plan, plan, Call, for-update, reading, holds}
+use Rattle.bbt.specs.Plans.{Step, erase, write, Plan, stepsOf, plan, Call, for-update, reading, holds}
 use Rattle.bbt.specs.PowerCuts.{Start}
 use Rattle.bbt.specs.Regions.{Region, view, bytesAt, Blank, Unreadable, Kept}
 
@@ -65,6 +66,9 @@ module _ {chip : LargeChip} where
 pub record Possible (chip : LargeChip) : Type 0 where
   pub steps : {w : World chip} {r : Region chip} {l : Last} {c : Call} {a : Snapshot chip} {i : ℕ} {e : Step} {es : List Step} → Start w
       → History w (world r (holding c a i (e ∷ es)) l) → CanHappen r l c a i e es
+  pub plans : (r : Region chip) (h : Hand chip) (l : Last) (call : Call) (q : Plan) → answer call (snapshot r) ≡ plan q
+      → (l′ : Last) × Event r l h (world r (holding call (snapshot r) 0 (stepsOf (pagesOf chip) q)) l′)
+  pub cuts : (r : Region chip) (h : Hand chip) (l : Last) → (l′ : Last) × Event r l h (world r empty l′)
   pub closes : (r : Region chip) (l : Last) → (l′ : Last) × Closes r l l′
   pub from-settled : (r : Region chip) (wanted : List ℕ) (q : Plan) → answer (for-update wanted) (snapshot r) ≡ plan q
       → (p : ℕ) × (m : ℕ) × (o : Table) × (reading chip (view r) ≡ holds p m o)
