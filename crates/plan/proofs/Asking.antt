@@ -20,10 +20,10 @@ use Rattle.chip.specs.declared.Refusal.{Refusal}
 use Rattle.chip.specs.declared.Refusal.the-variants.{Length}
 use Rattle.plan.proofs.Answering.{by-out, by-work, answer-sourced}
 use Rattle.plan.proofs.Working.{besideOf, wantedOf, workOf}
-use Rattle.plan.specs.PageImages.{lentImage, answerBy, roomBy, pageAnswer, pageAfter, pageCase}
+use Rattle.plan.specs.PageImages.{lentImage, imageAnswerBy, imageAfterBy, imageAnswer, imageAfter, pageCase}
 use Rattle.plan.specs.Works.{workAnswer, Sourced}
-use Rattle.plan.specs.declared.PageAnswer.{PageAnswer}
-use Rattle.plan.specs.declared.PageAnswer.the-variants.{Refused}
+use Rattle.plan.specs.declared.ImageAnswer.{ImageAnswer}
+use Rattle.plan.specs.declared.ImageAnswer.the-variants.{Refused}
 use Rattle.plan.specs.declared.Work.{Work}
 use Rattle.region.specs.Cases.{lentCase}
 use Rattle.region.specs.declared.Beside.{Beside}
@@ -49,9 +49,9 @@ room-right n beside image status room chip c e = go (eqb room 2112) refl e
     go false a e = absurd (let z = never (chipOf n) e in omega arith)
 
 -- what goes by one image goes by an equal one
-pub by-same : {r : PageAnswer} {after : List ℕ} {x y : Imaged} (room : List ℕ) → (r ≡ answerBy x) × (after ≡ roomBy x room) → y ≡ x
-    → (r ≡ answerBy y) × (after ≡ roomBy y room)
-by-same room w e = (w .0 ∙ ap answerBy (sym e), w .1 ∙ ap (λ (z : Imaged). roomBy z room) (sym e))
+pub by-same : {r : ImageAnswer} {after : List ℕ} {x y : Imaged} (room : List ℕ) → (r ≡ imageAnswerBy x) × (after ≡ imageAfterBy x room) → y ≡ x
+    → (r ≡ imageAnswerBy y) × (after ≡ imageAfterBy y room)
+by-same room w e = (w .0 ∙ ap imageAnswerBy (sym e), w .1 ∙ ap (λ (z : Imaged). imageAfterBy z room) (sym e))
 
 module _ (call : Call) (n : ℕ) (image status : List ℕ) (i : ℕ) (room : List ℕ) where
   asked-out : (r : Refusal) → pageCase n (besideOf call) image status (length room) ≡ NoCase r → lentImage n call image status i room ≡ no-image r
@@ -78,8 +78,8 @@ module _ (call : Call) (n : ℕ) (image status : List ℕ) (i : ℕ) (room : Lis
 
   -- as the entries have it: refused, or by the work
   pub page-out : (r : Refusal) → pageCase n (besideOf call) image status (length room) ≡ NoCase r
-      → (Refused r ≡ pageAnswer n call image status i room) × (room ≡ pageAfter n call image status i room)
-  unfolding pageAnswer pageAfter
+      → (Refused r ≡ imageAnswer n call image status i room) × (room ≡ imageAfter n call image status i room)
+  unfolding imageAnswer imageAfter
   page-out r e = by-same room (refl, refl) (asked-out r e)
 
   module _ (chip : LargeChip) (c : PairCase) (e : pageCase n (besideOf call) image status (length room) ≡ TheCase chip c) (work : Work)
@@ -89,9 +89,9 @@ module _ (call : Call) (n : ℕ) (image status : List ℕ) (i : ℕ) (room : Lis
         let lent = room-right n (besideOf call) image status (length room) chip c e in
         (answer-sourced call n image status chip c (lent .told) work w, lent .page)
 
-    pub page-work : {r : PageAnswer} {after : List ℕ}
-        → (r ≡ answerBy (planImage chip (workAnswer chip image (wantedOf call) work) i))
-        × (after ≡ roomBy (planImage chip (workAnswer chip image (wantedOf call) work) i) room)
-        → (r ≡ pageAnswer n call image status i room) × (after ≡ pageAfter n call image status i room)
-    unfolding pageAnswer pageAfter
+    pub page-work : {r : ImageAnswer} {after : List ℕ}
+        → (r ≡ imageAnswerBy (planImage chip (workAnswer chip image (wantedOf call) work) i))
+        × (after ≡ imageAfterBy (planImage chip (workAnswer chip image (wantedOf call) work) i) room)
+        → (r ≡ imageAnswer n call image status i room) × (after ≡ imageAfter n call image status i room)
+    unfolding imageAnswer imageAfter
     page-work x = by-same room x (asked-work chip c e work w)

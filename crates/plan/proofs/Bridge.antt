@@ -9,7 +9,7 @@ use Rattle.bbt.specs.Lent.{planned, imaged}
 use Rattle.bbt.specs.Plans.{Call}
 use Rattle.plan.specs.Answers.{planAnswer}
 use Rattle.plan.specs.Bridge.{Bridged}
-use Rattle.plan.specs.PageImages.{lentImage, pageAnswer, pageAfter}
+use Rattle.plan.specs.PageImages.{lentImage, imageAnswer, imageAfter}
 
 -- with room for a page, its image is the step's
 room-image : (n : ℕ) (call : Call) (image status : List ℕ) (i : ℕ) (room : List ℕ) → length room ≡ 2112
@@ -18,7 +18,7 @@ unfolding lentImage
 room-image n call image status i room h = rw (eq-eqb (length room) 2112 h)
 
 pub bridged : Bridged
-unfolding planAnswer planned pageAnswer pageAfter
+unfolding planAnswer planned imageAnswer imageAfter
 bridged n chip call image status e = record {
   plans = rw e;
   answers = λ i room h. rw (room-image n call image status i room h);

@@ -10,14 +10,14 @@ use Rattle.chip.specs.Large.{chipOf}
 use Rattle.chip.specs.declared.ChipAnswer.the-variants.{Chip}
 use Rattle.chip.specs.declared.LargeChip.{LargeChip}
 use Rattle.plan.specs.Answers.{toldAnswer, planAnswer}
-use Rattle.plan.specs.PageImages.{answerBy, roomBy, pageAnswer, pageAfter}
+use Rattle.plan.specs.PageImages.{imageAnswerBy, imageAfterBy, imageAnswer, imageAfter}
 
 pub record Bridge (n : ℕ) (chip : LargeChip) (call : Call) (image status : List ℕ) : Type 0 where
   -- the plan or its refusal, told with chip blocks
   pub plans : planAnswer n call image status ≡ toldAnswer chip (planned n call image status)
   -- the page of step i or its refusal, where there is room for a page
-  pub answers : (i : ℕ) (room : List ℕ) → length room ≡ 2112 → pageAnswer n call image status i room ≡ answerBy (imaged n call image status i)
-  pub pages : (i : ℕ) (room : List ℕ) → length room ≡ 2112 → pageAfter n call image status i room ≡ roomBy (imaged n call image status i) room
+  pub answers : (i : ℕ) (room : List ℕ) → length room ≡ 2112 → imageAnswer n call image status i room ≡ imageAnswerBy (imaged n call image status i)
+  pub pages : (i : ℕ) (room : List ℕ) → length room ≡ 2112 → imageAfter n call image status i room ≡ imageAfterBy (imaged n call image status i) room
 
 abbrev pub Bridged : Type 0
 Bridged = (n : ℕ) (chip : LargeChip) (call : Call) (image status : List ℕ) → chipOf n ≡ Chip chip → Bridge n chip call image status

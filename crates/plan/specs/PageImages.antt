@@ -10,8 +10,8 @@ use Rattle.bbt.specs.Plans.{Call}
 use Rattle.bbt.specs.declared.Kind.{Kind}
 use Rattle.chip.specs.Large.{chipOf}
 use Rattle.chip.specs.declared.Refusal.the-variants.{Length}
-use Rattle.plan.specs.declared.PageAnswer.{PageAnswer}
-use Rattle.plan.specs.declared.PageAnswer.the-variants.{Made, Refused}
+use Rattle.plan.specs.declared.ImageAnswer.{ImageAnswer}
+use Rattle.plan.specs.declared.ImageAnswer.the-variants.{Made, Refused}
 use Rattle.region.specs.Cases.{lentCase}
 use Rattle.region.specs.declared.Beside.{Beside}
 use Rattle.region.specs.declared.LentCase.{LentCase}
@@ -27,19 +27,19 @@ lentImage n call image status i room =
     cond (eqb (length room) 2112) (imaged n call image status i) (onChip no-image (chipOf n) (λ chip. no-image Length))
 
 -- what is answered, and the lent room after it: as it was beside a refusal
-abbrev pub answerBy : Imaged → PageAnswer
-answerBy (no-image r) = Refused r
-answerBy (page-image bytes) = Made
+abbrev pub imageAnswerBy : Imaged → ImageAnswer
+imageAnswerBy (no-image r) = Refused r
+imageAnswerBy (page-image bytes) = Made
 
-abbrev pub roomBy : Imaged → List ℕ → List ℕ
-roomBy (no-image r) room = room
-roomBy (page-image bytes) room = bytes
+abbrev pub imageAfterBy : Imaged → List ℕ → List ℕ
+imageAfterBy (no-image r) room = room
+imageAfterBy (page-image bytes) room = bytes
 
-unfoldable pub pageAnswer : ℕ → Call → List ℕ → List ℕ → ℕ → List ℕ → PageAnswer
-pageAnswer n call image status i room = answerBy (lentImage n call image status i room)
+unfoldable pub imageAnswer : ℕ → Call → List ℕ → List ℕ → ℕ → List ℕ → ImageAnswer
+imageAnswer n call image status i room = imageAnswerBy (lentImage n call image status i room)
 
-unfoldable pub pageAfter : ℕ → Call → List ℕ → List ℕ → ℕ → List ℕ → List ℕ
-pageAfter n call image status i room = roomBy (lentImage n call image status i room) room
+unfoldable pub imageAfter : ℕ → Call → List ℕ → List ℕ → ℕ → List ℕ → List ℕ
+imageAfter n call image status i room = imageAfterBy (lentImage n call image status i room) room
 
 -- the pair's case, judged in that order, with this much room for a page
 unfoldable pub pageCase : ℕ → Beside → List ℕ → List ℕ → ℕ → LentCase

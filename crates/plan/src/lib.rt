@@ -10,7 +10,7 @@ ghost use Rattle.bbt.specs.Told.{chipBlock};
 ghost use Rattle.bitmap.specs.Made.{keeps};
 ghost use Rattle.chip.specs.Large.{bitmapBytes, pagesOf};
 ghost use Rattle.plan.specs.Answers.{toldAnswer, planAnswer};
-ghost use Rattle.plan.specs.PageImages.{imageInto, answerBy, roomBy, pageCase, pageAnswer, pageAfter};
+ghost use Rattle.plan.specs.PageImages.{imageInto, imageAnswerBy, imageAfterBy, pageCase, imageAnswer, imageAfter};
 ghost use Rattle.plan.specs.Works.{updateWork, missingWork, newerWork, recoveryWork, workAnswer, workBitmap, Sourced};
 use bbt::Kind;
 use bbt::PairCase;
@@ -288,7 +288,7 @@ fn new_part(
 }
 
 // What asking for a page image answers.
-pub enum PageAnswer {
+pub enum ImageAnswer {
     Made,
     Refused(Refusal),
 }
@@ -301,23 +301,23 @@ fn page_of(
     work: Work,
     step: u64,
     page: &mut [u8],
-) -> PageAnswer
+) -> ImageAnswer
     requires { ⌜ Sourced chip (length (now image)) (length (now wanted)) work × (length (now page) ≡ 2112) ⌝ }
-    ensures answer { λ r. ⌜ r ≡ answerBy (planImage chip (workAnswer chip (now (image .entry)) (now (wanted .entry)) work) step) ⌝ }
-    ensures out { λ _. ⌜ now (page .exit) ≡ roomBy (planImage chip (workAnswer chip (now (image .entry)) (now (wanted .entry)) work) step) (now (page .entry)) ⌝ }
+    ensures answer { λ r. ⌜ r ≡ imageAnswerBy (planImage chip (workAnswer chip (now (image .entry)) (now (wanted .entry)) work) step) ⌝ }
+    ensures out { λ _. ⌜ now (page .exit) ≡ imageAfterBy (planImage chip (workAnswer chip (now (image .entry)) (now (wanted .entry)) work) step) (now (page .entry)) ⌝ }
 {
     match plan_of(chip, image, wanted, work) {
-        PlanAnswer::Refused(r) => PageAnswer::Refused(r),
+        PlanAnswer::Refused(r) => ImageAnswer::Refused(r),
         PlanAnswer::Planned(plan) => {
             let version = plan.version;
             match plan.step(step) {
-                Step::Erase(_) => PageAnswer::Refused(Refusal::Range),
-                Step::Past => PageAnswer::Refused(Refusal::Range),
+                Step::Erase(_) => ImageAnswer::Refused(Refusal::Range),
+                Step::Past => ImageAnswer::Refused(Refusal::Range),
                 Step::Write(_, p, kind) => {
                     let mut part = [0u8; 2048];
                     let n = new_part(chip, image, wanted, work, p, &mut part);
                     page_image(&part[0..n], kind, version, page);
-                    PageAnswer::Made
+                    ImageAnswer::Made
                 }
             }
         }
@@ -345,23 +345,23 @@ pub fn update_page(
     wanted: &[u8],
     step: u64,
     page: &mut [u8],
-) -> PageAnswer
-    ensures answer { λ r. ⌜ r ≡ pageAnswer n (for-update (now (wanted .entry))) (now (image .entry)) (now (status .entry)) step (now (page .entry)) ⌝ }
-    ensures out { λ _. ⌜ now (page .exit) ≡ pageAfter n (for-update (now (wanted .entry))) (now (image .entry)) (now (status .entry)) step (now (page .entry)) ⌝ }
+) -> ImageAnswer
+    ensures answer { λ r. ⌜ r ≡ imageAnswer n (for-update (now (wanted .entry))) (now (image .entry)) (now (status .entry)) step (now (page .entry)) ⌝ }
+    ensures out { λ _. ⌜ now (page .exit) ≡ imageAfter n (for-update (now (wanted .entry))) (now (image .entry)) (now (status .entry)) step (now (page .entry)) ⌝ }
 {
     match page_case(n, Beside::Bitmap(wanted.len()), image, status, page.len()) {
-        LentCase::Refused(r) => PageAnswer::Refused(r),
+        LentCase::Refused(r) => ImageAnswer::Refused(r),
         LentCase::Case(chip, c) => page_of(chip, image, wanted, update_work(c), step, page),
     }
 }
 
 // The page image of a step of a recovery's plan, by the snapshot that the plan was made from.
-pub fn recovery_page(n: u64, image: &[u8], status: &[u8], step: u64, page: &mut [u8]) -> PageAnswer
-    ensures answer { λ r. ⌜ r ≡ pageAnswer n for-recovery (now (image .entry)) (now (status .entry)) step (now (page .entry)) ⌝ }
-    ensures out { λ _. ⌜ now (page .exit) ≡ pageAfter n for-recovery (now (image .entry)) (now (status .entry)) step (now (page .entry)) ⌝ }
+pub fn recovery_page(n: u64, image: &[u8], status: &[u8], step: u64, page: &mut [u8]) -> ImageAnswer
+    ensures answer { λ r. ⌜ r ≡ imageAnswer n for-recovery (now (image .entry)) (now (status .entry)) step (now (page .entry)) ⌝ }
+    ensures out { λ _. ⌜ now (page .exit) ≡ imageAfter n for-recovery (now (image .entry)) (now (status .entry)) step (now (page .entry)) ⌝ }
 {
     match page_case(n, Beside::Nothing, image, status, page.len()) {
-        LentCase::Refused(r) => PageAnswer::Refused(r),
+        LentCase::Refused(r) => ImageAnswer::Refused(r),
         LentCase::Case(chip, c) => {
             let work = recovery_work(n, image, status, c);
             page_of(chip, image, &image[0..0], work, step, page)

@@ -15,9 +15,9 @@ use Rattle.bitmap.specs.declared.BitmapAnswer.{BitmapAnswer}
 use Rattle.bitmap.specs.declared.BitmapAnswer.the-variants.{Made, Refused as NotMade}
 use Rattle.chip.specs.Large.{chipOf}
 use Rattle.chip.specs.declared.Refusal.the-variants.{Length}
-use Rattle.plan.specs.PageImages.{pageAnswer}
-use Rattle.plan.specs.declared.PageAnswer.{PageAnswer as ImageAnswer}
-use Rattle.plan.specs.declared.PageAnswer.the-variants.{Made as ImageMade, Refused as NoImage}
+use Rattle.plan.specs.PageImages.{imageAnswer}
+use Rattle.plan.specs.declared.ImageAnswer.{ImageAnswer}
+use Rattle.plan.specs.declared.ImageAnswer.the-variants.{Made as ImageMade, Refused as NoImage}
 use Rattle.plan.specs.declared.PlanAnswer.{PlanAnswer}
 use Rattle.plan.specs.declared.PlanAnswer.the-variants.{Planned, Refused as NotPlanned}
 use Rattle.region.specs.Tables.{tableAnswer}
@@ -82,9 +82,9 @@ roomOf (Planned q) = 4 * length (toldSteps q)
 roomOf (NotPlanned r) = 0
 
 -- ---- ream_update_page, ream_recovery_page
-abbrev pub pageImageCodeBy : ImageAnswer → ℕ
-pageImageCodeBy ImageMade = 0
-pageImageCodeBy (NoImage r) = refusalCode r
+abbrev pub imageCodeBy : ImageAnswer → ℕ
+imageCodeBy ImageMade = 0
+imageCodeBy (NoImage r) = refusalCode r
 
-unfoldable pub pageImageCode : ℕ → Call → List ℕ → List ℕ → ℕ → List ℕ → ℕ
-pageImageCode n call image status i room = pageImageCodeBy (pageAnswer n call image status i room)
+unfoldable pub imageCode : ℕ → Call → List ℕ → List ℕ → ℕ → List ℕ → ℕ
+imageCode n call image status i room = imageCodeBy (imageAnswer n call image status i room)

@@ -8,8 +8,8 @@ ghost use Rattle.bitmap.specs.Made.{firstAfter};
 ghost use Rattle.bits.specs.Bytes.{copied};
 ghost use Rattle.reamsickle.specs.Boundary.{refusalCode, fieldBytes, halfCode, halfCodeAfter, writeCode, spareCode, spareFieldsAfter, pageCode, pageDataAfter, pageFieldsAfter};
 ghost use Rattle.plan.specs.Answers.{planAnswer};
-ghost use Rattle.plan.specs.PageImages.{pageAfter};
-ghost use Rattle.reamsickle.specs.LargeBoundary.{firstCode, tableCode, stepBytes, stepsPut, planCode, stepsAfter, roomOf, pageImageCodeBy, pageImageCode};
+ghost use Rattle.plan.specs.PageImages.{imageAfter};
+ghost use Rattle.reamsickle.specs.LargeBoundary.{firstCode, tableCode, stepBytes, stepsPut, planCode, stepsAfter, roomOf, imageCodeBy, imageCode};
 ghost use Rattle.region.specs.Tables.{tableAfter};
 ghost use Rattle.spare.specs.Writing.{spareAfter};
 use bbt::Plan;
@@ -19,6 +19,7 @@ use chip::ChipAnswer;
 use chip::LargeChip;
 use chip::Refusal;
 use chip::SmallChip;
+use plan::ImageAnswer;
 use plan::PlanAnswer;
 use region::TableAnswer;
 use spare::PageAnswer;
@@ -234,12 +235,12 @@ pub extern "C" fn ream_recovery_plan(n: u64, image: &[u8], status: &[u8], steps:
 }
 
 // What asking for a page image answered, as a number.
-fn image_code(answer: plan::PageAnswer) -> u64
-    ensures { λ r. ⌜ r ≡ pageImageCodeBy answer ⌝ }
+fn image_code(answer: ImageAnswer) -> u64
+    ensures { λ r. ⌜ r ≡ imageCodeBy answer ⌝ }
 {
     match answer {
-        plan::PageAnswer::Made => 0,
-        plan::PageAnswer::Refused(r) => refusal_code(r),
+        ImageAnswer::Made => 0,
+        ImageAnswer::Refused(r) => refusal_code(r),
     }
 }
 
@@ -253,8 +254,8 @@ pub extern "C" fn ream_update_page(
     step: u64,
     page: &mut [u8],
 ) -> u64
-    ensures answer { λ r. ⌜ r ≡ pageImageCode n (for-update (now (wanted .entry))) (now (image .entry)) (now (status .entry)) step (now (page .entry)) ⌝ }
-    ensures out { λ _. ⌜ now (page .exit) ≡ pageAfter n (for-update (now (wanted .entry))) (now (image .entry)) (now (status .entry)) step (now (page .entry)) ⌝ }
+    ensures answer { λ r. ⌜ r ≡ imageCode n (for-update (now (wanted .entry))) (now (image .entry)) (now (status .entry)) step (now (page .entry)) ⌝ }
+    ensures out { λ _. ⌜ now (page .exit) ≡ imageAfter n (for-update (now (wanted .entry))) (now (image .entry)) (now (status .entry)) step (now (page .entry)) ⌝ }
 {
     image_code(plan::update_page(n, image, status, wanted, step, page))
 }
@@ -268,8 +269,8 @@ pub extern "C" fn ream_recovery_page(
     step: u64,
     page: &mut [u8],
 ) -> u64
-    ensures answer { λ r. ⌜ r ≡ pageImageCode n for-recovery (now (image .entry)) (now (status .entry)) step (now (page .entry)) ⌝ }
-    ensures out { λ _. ⌜ now (page .exit) ≡ pageAfter n for-recovery (now (image .entry)) (now (status .entry)) step (now (page .entry)) ⌝ }
+    ensures answer { λ r. ⌜ r ≡ imageCode n for-recovery (now (image .entry)) (now (status .entry)) step (now (page .entry)) ⌝ }
+    ensures out { λ _. ⌜ now (page .exit) ≡ imageAfter n for-recovery (now (image .entry)) (now (status .entry)) step (now (page .entry)) ⌝ }
 {
     image_code(plan::recovery_page(n, image, status, step, page))
 }

@@ -1,4 +1,4 @@
--- `image_code` meets its contract, as `pageImageCodeBy` is written.
+-- `image_code` meets its contract, as `imageCodeBy` is written.
 -- Assumes nothing.
 use mathlib.Core.Path.{refl}
 use borrow.Author.Needs.{needs}

@@ -2,7 +2,7 @@
 -- Assumes nothing.
 use mathlib.Core.Path.{_∙_, ap}
 use borrow.Author.Needs.{needs}
-use Rattle.reamsickle.specs.LargeBoundary.{pageImageCodeBy, pageImageCode}
+use Rattle.reamsickle.specs.LargeBoundary.{imageCodeBy, imageCode}
 use Rattle.reamsickle.proofs.ream_update_page.Statement.{statement}
 use Rattle.reamsickle.proofs.ream_update_page.Tie as tie
 
@@ -16,8 +16,8 @@ same-length : tie.Need-same-length
 same-length c = search needs
 
 returns : tie.Need-returns
-unfolding pageImageCode
-returns c = let w = c .before .before .before .update-page .ensures in (c .image-code .ensures ∙ ap pageImageCodeBy (w .0), w .1)
+unfolding imageCode
+returns c = let w = c .before .before .before .update-page .ensures in (c .image-code .ensures ∙ ap imageCodeBy (w .0), w .1)
 
 pub ream-update-page-spec : {M : Type 1} → statement M
 ream-update-page-spec =
