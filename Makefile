@@ -5,7 +5,8 @@
 #   make run        the tool's simulation of an update, power cuts and recoveries, with a picture
 #   make example    the example, host/example.c
 #   make test       the gate: all proofs and all tests (.ci/run)
-#   make host-test  the host test and a fixed run of the power-cut simulator, plain and built with sanitizers
+#   make host-test  the host test, a fixed run of the power-cut simulator and the tool's test, plain and built with
+#                   sanitizers
 #   make soak       the power-cut simulator until it is interrupted; SEED=1 HISTORIES=100000 runs so many
 #   make bench      the time of each entry beside the reference's
 #   make clean      removes target/
@@ -17,7 +18,7 @@ SANITIZE := -g -fsanitize=address,undefined -fno-sanitize-recover=all
 
 library := target/staticlib/libreamsickle.a
 host := target/host
-programs := $(host)/ream $(host)/example $(host)/host_test $(host)/host_test_sanitized \
+programs := $(host)/ream $(host)/ream_sanitized $(host)/example $(host)/host_test $(host)/host_test_sanitized \
 	$(host)/histories $(host)/histories_sanitized $(host)/bench
 headers := $(wildcard include/*.h host/*.h host/ream/*.h)
 reference := host/reference.c host/reference_large.c
@@ -49,6 +50,9 @@ $(host):
 $(host)/ream: $(ream_sources) $(headers) $(library) | $(host)
 	$(compile) -Ihost -o $@ $(ream_sources) $(library)
 
+$(host)/ream_sanitized: $(ream_sources) $(headers) $(library) | $(host)
+	$(compile) -Ihost $(SANITIZE) -o $@ $(ream_sources) $(library)
+
 $(host)/example: host/example.c $(headers) $(library) | $(host)
 	$(compile) -o $@ host/example.c $(library)
 
@@ -76,11 +80,14 @@ example: $(host)/example
 test:
 	.ci/run
 
-host-test: $(host)/host_test $(host)/host_test_sanitized $(host)/histories $(host)/histories_sanitized
+host-test: $(host)/host_test $(host)/host_test_sanitized $(host)/histories $(host)/histories_sanitized \
+		$(host)/ream $(host)/ream_sanitized
 	$(host)/host_test
 	$(host)/host_test_sanitized
 	$(host)/histories
 	$(host)/histories_sanitized
+	host/test_ream.sh $(host)/ream
+	host/test_ream.sh $(host)/ream_sanitized
 
 soak: $(host)/histories
 	$(host)/histories $(SEED) $(HISTORIES)
