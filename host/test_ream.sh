@@ -121,6 +121,20 @@ says "recovery: refused, 11: there is no block to recover to"
 expect 1 "pair: refused, 10" pair $chip differing
 says "recovery: would merge both tables (AND) and write both copies, version 6; 4 steps"
 
+# a table of two pages: a copy is good only with both of one kind and version
+{ primary 005; primary 006; mirror 005; blank; primary 005; mirror 005; bad; mirror 005; } >partly
+expect 1 "pair: refused, 7" pair --blocks 8196 --pages-per-block 2 partly
+says "a copy of the table fills 2 pages"
+says "block 8192: partly PP"
+says "block 8193: partly M-"
+says "block 8194: partly PM"
+says "block 8195: bad"
+printf '\000\001\001\001\000\000\001\000' >status_partly
+expect 1 "pair: refused, 7" pair --blocks 8196 --pages-per-block 2 --status status_partly partly
+says "block 8192: partly Px"
+says "block 8193: unreadable"
+says "block 8195: partly xM"
+
 # ---- update
 
 expect_none new 0 "update: 4 steps, to version 6" update $chip --mark-late 7,9-11 settled
@@ -147,6 +161,7 @@ expect 0 "version 0" pair $chip turned
 for dump in no_copy:7 several:8 opposite:9 newer:10 no_target:10; do
 	expect_none none 1 "update: refused, ${dump#*:}:" update $chip --mark-late 1 --apply none "${dump%:*}"
 done
+says "a recovery comes first (ream recover)"
 
 # an erase makes later pages of its block blank too, and no other block's
 { primary 005; primary 005; blank; bad; bad; bad; mirror 005; bad; } >two_pages
@@ -220,7 +235,7 @@ expect 2 "one argument too many" pair $chip settled settled
 expect 2 "--force: takes no value" recover $chip --force=yes settled
 expect 2 "--apply: expected a value, found an empty one" recover $chip --apply= settled
 expect 2 "expected --mark-late" update $chip settled
-for list in x 1, ,1 1-x 3-1 1.5 -1; do
+for list in x '1,' ,1 1-x 3-1 1.5 -1; do
 	expect 2 "--mark-late" update $chip --mark-late "$list" settled
 done
 expect 2 "--mark-late 16: expected a block from 0 to 15 (refusal 2" update $chip --mark-late 3-16 settled
@@ -244,6 +259,8 @@ check "--force replaces it" cmp recovered there
 mkdir folder
 expect 2 "folder: is there and is no regular file" recover $chip --apply folder --force newer
 expect_none missing/none 2 "missing/none: cannot be written" recover $chip --apply missing/none newer
+expect_none none 2 "missing/status: cannot be written" \
+	recover $chip --apply none --status-out missing/status newer
 expect_none none 2 "none: is named for two files" recover $chip --apply none --status-out none newer
 (
 	trap '' XFSZ
@@ -287,8 +304,11 @@ mend "count word" 524 '\143'
 cp page flawed
 poke flawed 517 '\376'
 poke flawed 515 '\203'
+poke flawed 524 '\102'
 poke flawed 522 '\374'
+poke flawed 527 '\374'
 expect 0 "repairs: 0" page flawed
+check "bits that are ignored are no repair" grep -qx "repairs: 0" out
 says "status: FE, good"
 poke flawed 0 '\376'
 poke flawed 256 '\376'
@@ -331,8 +351,20 @@ expect 0 "no rule broken" simulate --blocks 1024 --seed 1 --events 20
 check "a seed gives the same history again" cmp first out
 expect 0 "no rule broken" simulate --seed 2
 check "another seed gives another history" test -n "$(cmp first out 2>&1)"
+# what make run shows
+expect 0 "=> OLD table kept, v232: the cut update's new primary was not complete" simulate --seed 645 --events 13
+says "=> NEW table kept, v233: the cut update's new primary was complete"
+says "!CUT in step 1: write 1021 page 0"
+
+# The old table has the version before the last update's, the new one its own.
+kept_as_told() {
+	awk '/ update to v/ { sub(/.*update to v/, ""); new = $0 + 0 }
+		/=> OLD table/ { sub(/.*kept, v/, ""); if (($0 + 1) % 256 != new) exit 1 }
+		/=> NEW table/ { sub(/.*kept, v/, ""); if ($0 + 0 != new) exit 1 }' out
+}
 for blocks in 8 8192 8196 16388 24580 32768; do
 	expect 0 "no rule broken" simulate --blocks $blocks --events 60 --seed $blocks --svg "picture_$blocks"
+	check "the table kept has its version" kept_as_told
 	says "picture written: picture_$blocks"
 	check "the picture is whole" grep -q "^</svg>" "picture_$blocks"
 	check "a cut is drawn" grep -q 'class="cut">CUT' "picture_$blocks"

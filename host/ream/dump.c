@@ -117,8 +117,8 @@ static bool read_status(struct region *region, const char *path)
 	for (size_t i = 0; i < len; i++) {
 		if (region->status[i] == REAM_READ_WELL || region->status[i] == REAM_UNREADABLE)
 			continue;
-		complain("%s: offset %zu has %02X, expected 00 (read well) or 01 (unreadable) (" REFUSED_RANGE ")",
-			 path, i, region->status[i]);
+		complain("%s: offset %zu has %02X, expected 00 (read well) or 01 (unreadable) (%s)", path, i,
+			 region->status[i], REFUSED_RANGE);
 		return false;
 	}
 	return true;
@@ -133,6 +133,7 @@ bool dump_read(struct dump *dump, const char *path, const struct shape *shape)
 	if (!stream)
 		return false;
 	dump->path = path;
+	dump->status = shape->status;
 	if (measure(dump, shape, &n)) {
 		region_begin(&dump->region, n);
 		read = read_pages(dump, stream);

@@ -29,6 +29,7 @@ struct shape {
 
 struct dump {
 	const char *path;
+	const char *status;	/* the path of its status file, or NULL */
 	uint64_t size;
 	uint64_t pages_per_block;
 	bool whole;		/* of the whole chip; otherwise of its last four blocks */

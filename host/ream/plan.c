@@ -22,11 +22,9 @@ unsigned plan_make(struct plan *plan, const struct region *region, const uint8_t
 		answer = ream_recovery_plan(region->n, region->image, image_len, region->status, status_len,
 					    plan->steps, sizeof(plan->steps));
 	}
-	if (ream_refusal(answer) != REAM_OK)
-		return ream_refusal(answer);
-	plan->version = ream_version(answer);
-	plan->count = ream_step_count(answer);
-	return REAM_OK;
+	plan->version = ream_refusal(answer) == REAM_OK ? ream_version(answer) : 0;
+	plan->count = ream_refusal(answer) == REAM_OK ? ream_step_count(answer) : 0;
+	return ream_refusal(answer);
 }
 
 struct ream_step plan_step(const struct plan *plan, unsigned i)

@@ -17,7 +17,8 @@ struct plan {
 	unsigned count;			/* of its steps */
 };
 
-/* Plans an update to a wanted bitmap, or a recovery where that is NULL. Gives the refusal, or REAM_OK. */
+/* Plans an update to a wanted bitmap, or a recovery where that is NULL. Gives the refusal, with no step, or
+ * REAM_OK. */
 unsigned plan_make(struct plan *plan, const struct region *region, const uint8_t *wanted);
 
 struct ream_step plan_step(const struct plan *plan, unsigned i);

@@ -3,8 +3,8 @@
 #include <stdio.h>
 #include <string.h>
 
+#include "apply.h"
 #include "dump.h"
-#include "file.h"
 #include "plan.h"
 #include "table.h"
 #include "tool.h"
@@ -38,10 +38,8 @@ static const char recover_help[] =
 /* What both commands are asked for. */
 struct order {
 	struct shape shape;
+	struct applying applying;
 	const char *mark_late;
-	const char *apply;
-	const char *status_out;
-	bool force;
 };
 
 /* ---- the wanted bitmap */
@@ -59,8 +57,8 @@ static const char *take_range(const char *text, uint64_t n, uint64_t *first, uin
 		return NULL;
 	}
 	if (*last >= n) {
-		complain("update: --mark-late %" PRIu64 ": expected a block from 0 to %" PRIu64 " (" REFUSED_RANGE ")",
-			 *last, n - 1);
+		complain("update: --mark-late %" PRIu64 ": expected a block from 0 to %" PRIu64 " (%s)", *last,
+			 n - 1, REFUSED_RANGE);
 		return NULL;
 	}
 	return end;
@@ -116,81 +114,6 @@ static void print_plan(const char *name, const struct plan *plan)
 	}
 }
 
-/* ---- the copy of the dump */
-
-struct copy {
-	const struct dump *dump;
-	const struct plan *plan;
-};
-
-/* Copies the dump as it is. */
-static bool copy_as_it_is(FILE *stream, const struct dump *dump)
-{
-	uint8_t bytes[32 * PAGE_BYTES];
-	uint64_t size, copied = 0;
-	size_t len;
-	FILE *from = file_open(dump->path, &size);
-
-	if (!from)
-		return false;
-	while ((len = fread(bytes, 1, sizeof(bytes), from)) > 0) {
-		fwrite(bytes, 1, len, stream);
-		copied += len;
-	}
-	fclose(from);
-	if (copied != dump->size)
-		complain("%s: ends at offset %" PRIu64 " by now, expected %" PRIu64 " bytes", dump->path,
-			 copied, dump->size);
-	return copied == dump->size;
-}
-
-/* Copies the dump and carries out the plan there: an erase makes every page of its block blank. */
-static bool fill_copy(FILE *stream, const void *from)
-{
-	const struct copy *copy = from;
-	uint8_t bytes[PAGE_BYTES];
-
-	if (!copy_as_it_is(stream, copy->dump))
-		return false;
-	for (unsigned i = 0; i < copy->plan->count; i++) {
-		const struct ream_step step = plan_step(copy->plan, i);
-		const unsigned block = plan_block(copy->plan, &step);
-		const bool erases = step.kind == REAM_ERASE;
-		const unsigned pages = erases ? (unsigned)copy->dump->pages_per_block : 1;
-
-		if (erases)
-			memset(bytes, 0xFF, sizeof(bytes));
-		else
-			plan_page(copy->plan, i, bytes);
-		for (unsigned page = step.page; page < step.page + pages; page++)
-			if (!file_put(stream, dump_offset(copy->dump, block, page), bytes, sizeof(bytes)))
-				return false;
-	}
-	return true;
-}
-
-static enum exit_status apply(const struct order *order, const struct dump *dump, const struct plan *plan)
-{
-	const struct copy copy = { dump, plan };
-	const char *const read[] = { dump->path, order->shape.status, NULL };
-	struct region after = dump->region;
-	const struct output outputs[] = {
-		{ "dump", order->apply, fill_copy, &copy },
-		{ "status file", order->status_out, dump_fill_status, &after },
-	};
-	struct settled table;
-	unsigned refusal;
-
-	plan_carry_out(plan, &after);
-	if (!file_write_all(outputs, 2, read, order->force))
-		return EXIT_WRONG;
-	refusal = table_read(&after, &table);
-	if (refusal != REAM_OK)
-		return print_refusal("pair", refusal);
-	table_print_pair(&table);
-	return EXIT_DONE;
-}
-
 /* ---- the commands */
 
 /* Takes the arguments, and reads the dump. */
@@ -201,17 +124,25 @@ static enum parsed take(struct syntax *syntax, int argc, char **argv, struct ord
 
 	order->shape = dump_shape();
 	dump_options(syntax, &order->shape);
-	args_add(syntax, (struct option){ .name = "--apply", .text = &order->apply });
-	args_add(syntax, (struct option){ .name = "--status-out", .text = &order->status_out });
-	args_add(syntax, (struct option){ .name = "--force", .flag = &order->force });
+	args_add(syntax, (struct option){ .name = "--apply", .text = &order->applying.out });
+	args_add(syntax, (struct option){ .name = "--status-out", .text = &order->applying.status_out });
+	args_add(syntax, (struct option){ .name = "--force", .flag = &order->applying.force });
 	parsed = args_parse(syntax, argc, argv, &file);
 	if (parsed != PARSED)
 		return parsed;
-	if (order->status_out && !order->apply) {
+	if (order->applying.status_out && !order->applying.out) {
 		complain("%s: --status-out: expected --apply beside it", syntax->command);
 		return PARSED_WRONG;
 	}
 	return dump_read(dump, file, &order->shape) ? PARSED : PARSED_WRONG;
+}
+
+static enum exit_status print_update_refusal(unsigned refusal)
+{
+	print_refusal("update", refusal);
+	if (refusal == REAM_NOT_SETTLED)
+		printf("  a recovery comes first (ream recover)\n");
+	return EXIT_REFUSED;
 }
 
 enum exit_status update_command(int argc, char **argv)
@@ -237,11 +168,11 @@ enum exit_status update_command(int argc, char **argv)
 		return EXIT_WRONG;
 	refusal = plan_make(&plan, &dump.region, wanted);
 	if (refusal != REAM_OK)
-		return print_refusal("update", refusal);
+		return print_update_refusal(refusal);
 	if (table_read(&dump.region, &table) == REAM_OK)
 		print_kept(&table, wanted, dump.region.n);
 	print_plan("update", &plan);
-	return order.apply ? apply(&order, &dump, &plan) : EXIT_DONE;
+	return order.applying.out ? apply_plan(&order.applying, &dump, &plan) : EXIT_DONE;
 }
 
 enum exit_status recover_command(int argc, char **argv)
@@ -259,5 +190,5 @@ enum exit_status recover_command(int argc, char **argv)
 	if (refusal != REAM_OK)
 		return print_refusal("recover", refusal);
 	print_plan("recover", &plan);
-	return order.apply ? apply(&order, &dump, &plan) : EXIT_DONE;
+	return order.applying.out ? apply_plan(&order.applying, &dump, &plan) : EXIT_DONE;
 }

@@ -66,7 +66,7 @@ static const char style[] =
 	".cell { text-anchor: middle; font-size: 12px; font-weight: bold }\n"
 	".on-dark { fill: #fff }\n"
 	".cut { fill: #b00020; font-weight: bold }\n"
-	".primary { fill: #0072b2 } .mirror { fill: #f0ad1e } .erased { fill: #fff } .unreadable { fill: #222 }\n"
+	".primary { fill: #0072b2 } .mirror { fill: #e69f00 } .erased { fill: #fff } .unreadable { fill: #222 }\n"
 	".bad { fill: #cc79a7 } .other { fill: url(#hatch) }\n"
 	".page { stroke: #777; stroke-width: 1 } .under { fill: none; stroke: #fff; stroke-width: 6 }\n"
 	".touched { fill: none; stroke: #111; stroke-width: 2.5 }\n"
