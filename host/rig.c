@@ -119,9 +119,14 @@ static void fill_block(uint64_t *state, struct region *region, unsigned block, c
 
 void rig_start(uint64_t *state, struct start *start, struct region *region)
 {
+	rig_start_on(state, sizes[draw_below(state, MOST_PAGES)][draw_below(state, 3)], start, region);
+}
+
+void rig_start_on(uint64_t *state, uint64_t n, struct start *start, struct region *region)
+{
 	uint8_t table[MOST_BITMAP];
 
-	start->n = sizes[draw_below(state, MOST_PAGES)][draw_below(state, 3)];
+	start->n = n;
 	start->version = draw_version(state);
 	start->block[PRIMARY] = (unsigned)draw_below(state, REGION_BLOCKS);
 	start->block[MIRROR] = (start->block[PRIMARY] + 1 + (unsigned)draw_below(state, 3)) % REGION_BLOCKS;

@@ -1,0 +1,41 @@
+/* What a block of the region holds, for a person to see. */
+#ifndef LOOK_H
+#define LOOK_H
+
+#include <stdint.h>
+
+#include "region.h"
+
+/* A page. Of the marks only that of a block readable as bad is told, on its first page. */
+enum page_look { PAGE_PRIMARY, PAGE_MIRROR, PAGE_ERASED, PAGE_UNREADABLE, PAGE_BAD, PAGE_OTHER, PAGE_LOOKS };
+
+/* A block. It is partly written if each of its pages is of a copy, erased or unreadable, but not all alike. */
+enum block_look {
+	BLOCK_PRIMARY,		/* a good one */
+	BLOCK_MIRROR,
+	BLOCK_ERASED,
+	BLOCK_UNREADABLE,
+	BLOCK_BAD,		/* readable as bad */
+	BLOCK_PARTLY,
+	BLOCK_OTHER,
+};
+
+struct look {
+	enum block_look block;
+	unsigned pages;
+	enum page_look page[MOST_PAGES];
+	uint8_t version[MOST_PAGES];	/* of pages of a copy */
+};
+
+/* The room for the words. */
+enum { LOOK_LEN = 24 };
+
+struct look look_at(const struct region *region, unsigned block);
+
+/* A letter for a page, as the words of a block that is partly written have it: P, M, -, x, B or ?. */
+char look_letter(enum page_look page);
+
+/* A block in words: "primary v5", "partly PP-x". */
+void look_words(const struct look *look, char words[LOOK_LEN]);
+
+#endif

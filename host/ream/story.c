@@ -1,0 +1,296 @@
+/* A story: a chip through updates, power cuts and recoveries. */
+#include "story.h"
+
+#include <inttypes.h>
+#include <stdarg.h>
+#include <stdio.h>
+#include <string.h>
+
+#include "draw.h"
+#include "rig.h"
+#include "table.h"
+
+const char *story_result(enum result result)
+{
+	static const char *const words[] = {
+		[RESULT_UPDATED] = "updated",
+		[RESULT_OLD_KEPT] = "OLD table kept",
+		[RESULT_NEW_KEPT] = "NEW table kept",
+		[RESULT_ONE_KEPT] = "table kept",
+	};
+
+	return words[result];
+}
+
+const char *story_reason(enum result result)
+{
+	static const char *const words[] = {
+		[RESULT_UPDATED] = "no cut: both copies are new",
+		[RESULT_OLD_KEPT] = "the cut update's new primary was not complete",
+		[RESULT_NEW_KEPT] = "the cut update's new primary was complete",
+		[RESULT_ONE_KEPT] = "no update was under way",
+	};
+
+	return words[result];
+}
+
+/* ---- rows */
+
+/* Adds a row for an event on a page, or nowhere, with its text; what it left is set down by end_row(). */
+static void begin_row(struct story *story, enum event event, unsigned block, unsigned page,
+		      const char *format, ...)
+{
+	va_list arguments;
+	struct row *row;
+
+	if (story->rows == story->room) {
+		story->broken = "what is begun comes to its end";
+		return;
+	}
+	row = &story->row[story->rows++];
+	row->event = event;
+	row->block = block;
+	row->page = page;
+	row->result = RESULT_NONE;
+	va_start(arguments, format);
+	vsnprintf(row->text, EVENT_LEN, format, arguments);
+	va_end(arguments);
+}
+
+/* Sets down what the last event left, and judges it. */
+static void end_row(struct story *story, enum result result)
+{
+	struct settled table;
+	struct row *row;
+
+	if (story->broken)
+		return;
+	row = &story->row[story->rows - 1];
+	for (unsigned block = 0; block < REGION_BLOCKS; block++)
+		row->look[block] = look_at(&story->region, block);
+	row->settled = table_read(&story->region, &table) == REAM_OK;
+	row->version = (uint8_t)table.version;
+	row->result = result;
+	checker_event(&story->checker, &story->region);
+	story->broken = story->checker.broken;
+	if (row->settled != checker_settled(&story->region))
+		story->broken = "the library reads a table exactly when the pair is settled";
+}
+
+/* ---- plans */
+
+/* A good block of the settled table, drawn, to be marked late. False where there is none. */
+static bool draw_good_block(struct story *story, const struct settled *table, uint64_t *block)
+{
+	const uint64_t n = story->region.n, first = draw_below(&story->state, n);
+
+	for (uint64_t i = 0; i < n; i++) {
+		*block = (first + i) % n;
+		if (ream_entry_get(table->bitmap, *block) == REAM_ENTRY_GOOD)
+			return true;
+	}
+	return false;
+}
+
+/* Takes the plan that was made into the hand. */
+static void take_in_hand(struct story *story)
+{
+	story->in_hand = true;
+	story->next = 0;
+	for (unsigned i = 0; i < story->plan.count; i++) {
+		const struct ream_step step = plan_step(&story->plan, i);
+
+		checker_told(&story->checker, &story->region, step.block, step.page);
+	}
+}
+
+/* The plan in hand is over, by its end or by a cut. */
+static void let_go(struct story *story)
+{
+	checker_closed(&story->checker, &story->region);
+	story->in_hand = false;
+}
+
+/* Plans an update that marks a block late. False where no good block is left. */
+static bool plan_update(struct story *story, const struct settled *table)
+{
+	uint8_t wanted[MOST_BITMAP];
+	uint64_t block;
+	unsigned refusal;
+
+	story->all_marked = !draw_good_block(story, table, &block);
+	if (story->all_marked)
+		return false;
+	memset(wanted, 0xFF, sizeof(wanted));
+	ream_entry_set(wanted, block, REAM_ENTRY_LATE);
+	refusal = plan_make(&story->plan, &story->region, wanted);
+	checker_update(&story->checker, &story->region, wanted, refusal != REAM_OK);
+	begin_row(story, EVENT_UPDATE, NOWHERE, 0, "update to v%u: %" PRIu64 " went bad", story->plan.version,
+		  block);
+	take_in_hand(story);
+	end_row(story, RESULT_NONE);
+	return true;
+}
+
+static void plan_recovery(struct story *story)
+{
+	const unsigned refusal = plan_make(&story->plan, &story->region, NULL);
+
+	checker_recovery(&story->checker, &story->region, refusal != REAM_OK, story->plan.count);
+	begin_row(story, EVENT_RECOVERY, NOWHERE, 0, "recovery to v%u", story->plan.version);
+	if (refusal == REAM_OK)
+		take_in_hand(story);
+	end_row(story, RESULT_NONE);
+}
+
+/* ---- steps and cuts */
+
+/* The step that comes next, with its row begun. `before` stands before its text. */
+static struct ream_step begin_step(struct story *story, enum event event, const char *before)
+{
+	const struct ream_step step = plan_step(&story->plan, story->next);
+	const unsigned block = plan_block(&story->plan, &step);
+
+	if (step.kind == REAM_ERASE)
+		begin_row(story, event, block, ALL_PAGES, "%sstep %u: erase %u", before, story->next, step.block);
+	else
+		begin_row(story, event, block, step.page, "%sstep %u: write %u page %u", before, story->next,
+			  step.block, step.page);
+	return step;
+}
+
+/* The plan in hand ran to its end. */
+static enum result finish(struct story *story)
+{
+	static const enum result results[] = {
+		[FOUND_ONE] = RESULT_ONE_KEPT, [FOUND_OLD] = RESULT_OLD_KEPT, [FOUND_NEW] = RESULT_NEW_KEPT,
+	};
+
+	let_go(story);
+	if (!story->plan.updates)
+		return results[checker_recovered(&story->checker, &story->region)];
+	checker_updated(&story->checker, &story->region);
+	return RESULT_UPDATED;
+}
+
+static void do_step(struct story *story)
+{
+	const struct ream_step step = begin_step(story, EVENT_STEP, "");
+	const unsigned block = plan_block(&story->plan, &step);
+	uint8_t page[PAGE_BYTES];
+
+	if (step.kind == REAM_ERASE) {
+		checker_erase(&story->checker, &story->region, block);
+		region_erase(&story->region, block);
+	} else {
+		plan_page(&story->plan, story->next, page);
+		rig_write(&story->state, &story->region, block, step.page, page);
+	}
+	story->next++;
+	end_row(story, story->next == story->plan.count ? finish(story) : RESULT_NONE);
+}
+
+static void cut_in_step(struct story *story)
+{
+	const struct ream_step step = begin_step(story, EVENT_CUT, "CUT in ");
+	const unsigned block = plan_block(&story->plan, &step);
+	enum left left[MOST_PAGES];
+	uint8_t page[PAGE_BYTES];
+
+	if (step.kind == REAM_ERASE) {
+		checker_erase(&story->checker, &story->region, block);
+		rig_cut_erase(&story->state, &story->region, block, left);
+	} else {
+		plan_page(&story->plan, story->next, page);
+		rig_cut_write(&story->state, &story->region, block, step.page, page);
+	}
+	let_go(story);
+	end_row(story, RESULT_NONE);
+}
+
+static void cut_before_step(struct story *story)
+{
+	begin_row(story, EVENT_CUT, NOWHERE, 0, "CUT before step %u", story->next);
+	let_go(story);
+	end_row(story, RESULT_NONE);
+}
+
+/* ---- the whole story */
+
+/* The next event within a plan. About half of all plans are cut. */
+static void next_in_plan(struct story *story, bool cuts)
+{
+	const uint64_t chance = draw_below(&story->state, 4 * (uint64_t)story->plan.count);
+
+	if (cuts && chance < 2)
+		cut_in_step(story);
+	else if (cuts && chance == 2)
+		cut_before_step(story);
+	else
+		do_step(story);
+}
+
+/* The next event. False where there is none. */
+static bool next_event(struct story *story, bool cuts, bool updates)
+{
+	struct settled table;
+
+	if (story->in_hand) {
+		next_in_plan(story, cuts);
+		return true;
+	}
+	if (table_read(&story->region, &table) == REAM_OK)
+		return updates && plan_update(story, &table);
+	plan_recovery(story);
+	return true;
+}
+
+static void show(const struct story *story, uint64_t events)
+{
+	if (story->rows % 256 == 0)
+		fprintf(stderr, "\rsimulating: event %zu of %" PRIu64, story->rows, events);
+}
+
+/* Can the story start here? The pair has to be settled, with half of the blocks good or more. */
+static bool can_start(struct story *story)
+{
+	const uint64_t n = story->region.n;
+	uint64_t good = 0;
+
+	if (!checker_begin(&story->checker, &story->region))
+		return false;
+	for (uint64_t block = 0; block < n; block++)
+		good += ream_entry_get(story->checker.last, block) == REAM_ENTRY_GOOD;
+	return good >= n / 2;
+}
+
+static void begin(struct story *story, struct row *row, size_t room, uint64_t n, uint64_t seed)
+{
+	struct start start;
+
+	story->row = row;
+	story->rows = 0;
+	story->room = room;
+	story->in_hand = story->all_marked = false;
+	story->broken = NULL;
+	story->seed = story->state = seed;
+	do
+		rig_start_on(&story->state, n, &start, &story->region);
+	while (!can_start(story));
+	begin_row(story, EVENT_START, NOWHERE, 0, "start");
+	end_row(story, RESULT_NONE);
+}
+
+bool story_run(struct story *story, struct row *row, uint64_t n, uint64_t seed, uint64_t events, bool stop,
+	       bool shows)
+{
+	begin(story, row, (size_t)events + STORY_MORE, n, seed);
+	while (!story->broken && story->rows <= events && next_event(story, true, true))
+		if (shows)
+			show(story, events);
+	while (!story->broken && !stop && next_event(story, false, false))
+		continue;
+	if (shows)
+		fprintf(stderr, "\r%60s\r", "");
+	return !story->broken;
+}

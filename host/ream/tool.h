@@ -1,0 +1,33 @@
+/*
+ * ream, the tool for dumps of the chips: its commands, what it exits with, and how it complains. The library's
+ * answers, refusals too, go to the standard output; complaints about arguments and files go to the standard
+ * error.
+ */
+#ifndef TOOL_H
+#define TOOL_H
+
+/* What the tool exits with. */
+enum exit_status {
+	EXIT_DONE = 0,
+	EXIT_REFUSED = 1,	/* by the library */
+	EXIT_WRONG = 2,		/* an argument or a file is wrong */
+};
+
+/* The commands, each with the arguments after its name. */
+enum exit_status pair_command(int argc, char **argv);
+enum exit_status update_command(int argc, char **argv);
+enum exit_status recover_command(int argc, char **argv);
+enum exit_status page_command(int argc, char **argv);
+enum exit_status simulate_command(int argc, char **argv);
+
+/* The refusals that an argument or a file of the wrong kind comes to, to stand in a complaint. */
+#define REFUSED_LENGTH "refusal 1: a lent buffer has the wrong length"
+#define REFUSED_RANGE "refusal 2: a number is outside its range"
+
+/* Says what is wrong, in a line after "ream: ". */
+void complain(const char *format, ...);
+
+/* Prints the refusal in the library's answer, with its number and in words, and gives EXIT_REFUSED. */
+enum exit_status print_refusal(const char *what, unsigned refusal);
+
+#endif

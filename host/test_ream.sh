@@ -1,0 +1,428 @@
+#!/bin/sh
+# The test of the tool, ream: every command with good and with wrong input; its exit status, what it says and what it
+# writes. A failed run must leave no file.
+#
+#	host/test_ream.sh PROGRAM
+set -u
+LC_ALL=C
+export LC_ALL
+
+if [ $# -ne 1 ] || ! [ -x "$1" ]; then
+	echo "usage: host/test_ream.sh PROGRAM" >&2
+	exit 2
+fi
+case $1 in
+/*) ream=$1 ;;
+*) ream=$PWD/$1 ;;
+esac
+manual=$(cd "$(dirname "$0")/.." && pwd)/man/ream.1
+work=$(mktemp -d) || exit 2
+trap 'rm -rf "$work"' EXIT
+cd "$work" || exit 2
+checks=0
+failures=0
+
+# ---- checks
+
+check() { # NAME COMMAND..: the command succeeds
+	checks=$((checks + 1))
+	name=$1
+	shift
+	if ! "$@" >/dev/null 2>&1; then
+		echo "test_ream: $name" >&2
+		failures=$((failures + 1))
+	fi
+}
+
+# Runs ream; its exit status has to be STATUS, and WORDS have to be among what it says: answers and refusals on the
+# standard output alone, what is wrong with arguments and files on the standard error.
+expect() { # STATUS WORDS ARGUMENTS..
+	status=$1
+	words=$2
+	shift 2
+	"$ream" "$@" >out 2>err
+	got=$?
+	check "ream $*: exit status $got, expected $status" [ "$got" -eq "$status" ]
+	if [ "$status" -eq 2 ]; then
+		check "ream $*: expected on standard error: $words" grep -qF -e "$words" err
+	else
+		check "ream $*: expected: $words" grep -qF -e "$words" out
+		check "ream $*: expected nothing on standard error" [ ! -s err ]
+	fi
+}
+
+# The same, and OUT is not written.
+expect_none() { # OUT STATUS WORDS ARGUMENTS..
+	none=$1
+	shift
+	expect "$@"
+	check "ream $*: left $none" [ ! -e "$none" ]
+}
+
+says() { # WORDS: the last run said this too
+	check "expected besides: $1" grep -qF -e "$1" out
+}
+
+# ---- pages and dumps
+
+ff() { # COUNT: so many bytes FF
+	dd if=/dev/zero bs="$1" count=1 2>/dev/null | tr '\000' '\377'
+}
+
+blank() { ff 2112; }
+bad() { ff 2048; printf '\000'; ff 63; }
+copy() { # SIGNATURE VERSION: a page of a table of good blocks; the version in octal
+	ff 2062
+	printf '%s' "$1"
+	printf "\\$2"
+	ff 45
+}
+primary() { copy Bbt0 "$1"; }
+mirror() { copy 1tbB "$1"; }
+poke() { # FILE OFFSET BYTES: in octal escapes
+	printf "$3" | dd of="$1" bs=1 seek="$2" conv=notrunc 2>/dev/null
+}
+
+# A chip of 16 blocks, of which each has one page in the dump.
+chip="--blocks 16 --pages-per-block 1"
+{ primary 005; blank; bad; mirror 005; } >settled
+{ ff 25344; cat settled; } >whole
+{ blank; blank; blank; blank; } >no_copy
+{ primary 005; primary 006; blank; mirror 005; } >several
+{ primary 005; blank; blank; mirror 205; } >opposite
+{ primary 006; blank; blank; mirror 005; } >newer
+{ primary 005; bad; bad; bad; } >no_target
+{ primary 005; blank; blank; mirror 005; } >differing
+poke differing 0 '\376'
+
+# ---- pair
+
+expect 0 "pair: settled, version 5, primary in block 12, mirror in block 15" pair $chip settled
+says "chip: 16 blocks; a copy of the table fills 1 page; dump of the last four blocks"
+says "block 13: erased"
+says "block 14: bad"
+says "entries: 16 good, 0 reserved, 0 late, 0 factory"
+sed 1d out >four_blocks
+expect 0 "dump of the whole chip" pair --pages-per-block 1 whole
+sed 1d out >whole_chip
+check "a dump of the whole chip and one of its last four blocks agree" cmp four_blocks whole_chip
+expect 0 "version 5" pair --pages-per-block 1 --blocks=16 -- whole
+
+expect 1 "pair: refused, 7: there is no good primary and no good mirror" pair $chip no_copy
+says "recovery: refused, 7"
+expect 1 "pair: refused, 8: there are two or more good copies of one kind" pair $chip several
+says "recovery: refused, 8"
+expect 1 "pair: refused, 9: the versions of primary and mirror are 128 apart" pair $chip opposite
+says "recovery: refused, 9"
+expect 1 "pair: refused, 10: the pair of tables is not settled" pair $chip newer
+says "recovery: would erase block 15 and write the mirror there, from the primary, version 6; 2 steps"
+expect 1 "pair: refused, 10" pair $chip no_target
+says "recovery: refused, 11: there is no block to recover to"
+expect 1 "pair: refused, 10" pair $chip differing
+says "recovery: would merge both tables (AND) and write both copies, version 6; 4 steps"
+
+# a table of two pages: a copy is good only with both of one kind and version
+{ primary 005; primary 006; mirror 005; blank; primary 005; mirror 005; bad; mirror 005; } >partly
+expect 1 "pair: refused, 7" pair --blocks 8196 --pages-per-block 2 partly
+says "a copy of the table fills 2 pages"
+says "block 8192: partly PP"
+says "block 8193: partly M-"
+says "block 8194: partly PM"
+says "block 8195: bad"
+printf '\000\001\001\001\000\000\001\000' >status_partly
+expect 1 "pair: refused, 7" pair --blocks 8196 --pages-per-block 2 --status status_partly partly
+says "block 8192: partly Px"
+says "block 8193: unreadable"
+says "block 8195: partly xM"
+
+# ---- update
+
+expect_none new 0 "update: 4 steps, to version 6" update $chip --mark-late 7,9-11 settled
+says "   0  erase     12     -"
+says "   1  write     12     0"
+says "   2  erase     15     -"
+says "   3  write     15     0"
+expect 0 "pair: settled, version 6, primary in block 12, mirror in block 15" \
+	update $chip --mark-late 7,9-11 --apply new settled
+says "dump written: new"
+expect 0 "version 6, primary in block 12, mirror in block 15" pair $chip new
+says "entries: 12 good, 0 reserved, 4 late, 0 factory"
+says "  block 7: late"
+says "  blocks 9-11: late"
+expect 0 "update: nothing to do, the table keeps version 6" update $chip --mark-late 9 new
+says "block 9: late already, and stays so"
+expect 0 "version 6" update --pages-per-block 1 --mark-late 7,9-11 --apply new_whole whole
+{ ff 25344; cat new; } >expected
+check "an update of the whole chip's dump changes its last four blocks alike" cmp expected new_whole
+{ primary 377; blank; blank; mirror 377; } >last_version
+expect 0 "update: 4 steps, to version 0" update $chip --mark-late 1 --apply turned last_version
+expect 0 "version 0" pair $chip turned
+
+for dump in no_copy:7 several:8 opposite:9 newer:10 no_target:10; do
+	expect_none none 1 "update: refused, ${dump#*:}:" update $chip --mark-late 1 --apply none "${dump%:*}"
+done
+says "a recovery comes first (ream recover)"
+
+# an erase makes later pages of its block blank too, and no other block's
+{ primary 005; primary 005; blank; bad; bad; bad; mirror 005; bad; } >two_pages
+{ primary 006; blank; blank; bad; bad; bad; mirror 006; blank; } >expected
+poke expected 1 '\367'
+poke expected 12673 '\367'
+expect 0 "version 6" update --blocks 16 --pages-per-block 2 --mark-late 5 --apply erased two_pages
+check "an erase makes every page of its block blank" cmp expected erased
+
+# ---- recover
+
+expect 0 "recover: nothing to do, the table keeps version 5" recover $chip --apply same settled
+check "an empty plan leaves the dump as it is" cmp settled same
+expect 0 "recover: 2 steps, to version 6" recover $chip --apply recovered newer
+says "   0  erase     15     -"
+says "pair: settled, version 6, primary in block 12, mirror in block 15"
+expect 0 "pair: settled, version 6, primary in block 12, mirror in block 15" pair $chip recovered
+expect 0 "recover: 4 steps, to version 6" recover $chip --apply merged differing
+expect 0 "block 0: reserved" pair $chip merged
+for dump in no_copy:7 several:8 opposite:9 no_target:11; do
+	expect_none none 1 "recover: refused, ${dump#*:}:" recover $chip --apply none "${dump%:*}"
+done
+
+# a page that could not be read
+printf '\000\000\000\001' >status
+expect 1 "pair: refused, 10" pair $chip --status status settled
+says "block 15: unreadable"
+says "recovery: would erase block 15 and write the mirror there"
+expect 0 "status file written: status_after" \
+	recover $chip --status status --apply after --status-out status_after settled
+expect 0 "version 5" pair $chip --status status_after after
+printf '\000\000\000\000' >expected
+check "what is written reads well" cmp expected status_after
+
+# ---- wrong arguments and files
+
+for blocks in 0 4 10 32772 99999999999; do
+	expect 2 "--blocks $blocks: expected a multiple of 4 from 8 to 32768 (refusal 2: a number is outside its range)" \
+		pair --blocks "$blocks" settled
+done
+expect 2 "settled: has 4 blocks of 1 pages; expected a whole chip" pair --pages-per-block 1 settled
+expect 2 "settled: ends at offset 8448, inside block 0; expected whole blocks of 135168 bytes" pair settled
+expect 2 "settled: ends at offset 8448; expected 67584 bytes, all 16 blocks of 2 pages, or 16896 bytes, the last four" \
+	pair --blocks 16 --pages-per-block 2 settled
+says_wrong="refusal 1: a lent buffer has the wrong length"
+dd if=settled of=short bs=8447 count=1 2>/dev/null
+expect 2 "$says_wrong" pair $chip short
+expect 2 "short: ends at offset 8447" pair $chip short
+: >empty
+expect 2 "empty: ends at offset 0" pair $chip empty
+expect 2 "empty: has 0 blocks" pair empty
+expect 2 "--pages-per-block 3: expected at least 4" pair --blocks 32768 --pages-per-block 3 settled
+expect 2 "missing: cannot be read" pair $chip missing
+expect 2 ".: expected a regular file" pair $chip .
+printf '\000\000\000' >short_status
+expect 2 "short_status: ends at offset 3, expected 4 bytes" pair $chip --status short_status settled
+printf '\000\000\002\000' >wrong_status
+expect 2 "wrong_status: offset 2 has 02, expected 00 (read well) or 01 (unreadable) (refusal 2" \
+	pair $chip --status wrong_status settled
+expect 2 "missing: cannot be read" pair $chip --status missing settled
+
+expect 2 "no command"
+expect 2 "pear: no such command" pear
+expect 2 "--block: no such option" pair --block 16 settled
+expect 2 "-b: no such option" pair -b settled
+expect 2 "--blocks: expected a value after it" pair --blocks
+expect 2 "--blocks x: expected a number" pair --blocks x settled
+expect 2 "--pages-per-block 0: expected a number from 1 to 1024" pair --pages-per-block 0 settled
+expect 2 "no file; expected DUMP" pair $chip
+expect 2 "one argument too many" pair $chip settled settled
+expect 2 "--force: takes no value" recover $chip --force=yes settled
+expect 2 "--apply: expected a value, found an empty one" recover $chip --apply= settled
+expect 2 "expected --mark-late" update $chip settled
+for list in x '1,' ,1 1-x 3-1 1.5 -1; do
+	expect 2 "--mark-late" update $chip --mark-late "$list" settled
+done
+expect 2 "--mark-late 16: expected a block from 0 to 15 (refusal 2" update $chip --mark-late 3-16 settled
+expect 2 "--status-out: expected --apply beside it" recover $chip --status-out none settled
+
+# ---- output files
+
+cp settled input
+expect 2 "input: is the file that is read" recover $chip --apply input --force input
+ln -s input link
+expect 2 "link: is the file that is read" recover $chip --apply link --force input
+check "the input is as it was" cmp settled input
+expect 2 "status: is the file that is read" \
+	recover $chip --status status --apply none --status-out status --force settled
+echo precious >there
+expect 2 "there: is there already; --force replaces it" recover $chip --apply there newer
+check "a file that is there stays" grep -q precious there
+expect_none none 2 "there: is there already" recover $chip --apply none --status-out there newer
+expect 0 "dump written: there" recover $chip --apply there --force newer
+check "--force replaces it" cmp recovered there
+mkdir folder
+expect 2 "folder: is there and is no regular file" recover $chip --apply folder --force newer
+expect_none missing/none 2 "missing/none: cannot be written" recover $chip --apply missing/none newer
+expect_none none 2 "missing/status: cannot be written" \
+	recover $chip --apply none --status-out missing/status newer
+expect_none none 2 "none: is named for two files" recover $chip --apply none --status-out none newer
+(
+	trap '' XFSZ
+	ulimit -f 4
+	"$ream" recover $chip --apply none newer >/dev/null 2>err_file
+	[ $? -eq 2 ] && grep -q "none: cannot be written\|the copy cannot be written" err_file
+)
+check "a file that cannot be written whole" [ $? -eq 0 ]
+check "a file that cannot be written whole is not there" [ ! -e none ]
+if [ -w /dev/full ]; then
+	"$ream" pair $chip settled >/dev/full 2>err
+	check "standard output that cannot be written" [ $? -eq 2 ]
+fi
+
+# ---- page
+
+spare='\000\000\001\243\001\377\126\000\377\377\377\000\142\377\377\377'
+{ ff 512; printf "$spare"; } >page
+expect 0 "path: 6, boot number 1, generation 2" page page
+says "status: FF, good"
+says "tag: 01, boot"
+says "count: 1 erases"
+says "repairs: 0"
+mend() { # NAME OFFSET BYTE: a page with one byte changed, which is put right
+	cp page flawed
+	poke flawed "$2" "$3"
+	rm -f mended
+	expect 0 "repairs: 1 ($1)" page --repaired mended flawed
+	says "page written: mended"
+	check "a repaired page is as it was written: $1" cmp page mended
+}
+mend "first half" 0 '\376'
+mend "first half" 525 '\376'
+mend "second half" 511 '\177'
+mend "second half" 522 '\373'
+mend "tag" 516 '\000'
+mend "path word" 512 '\200'
+mend "path word" 515 '\242'
+mend "count word" 518 '\127'
+mend "count word" 524 '\143'
+cp page flawed
+poke flawed 517 '\376'
+poke flawed 515 '\203'
+poke flawed 524 '\102'
+poke flawed 522 '\374'
+poke flawed 527 '\374'
+expect 0 "repairs: 0" page flawed
+check "bits that are ignored are no repair" grep -qx "repairs: 0" out
+says "status: FE, good"
+poke flawed 0 '\376'
+poke flawed 256 '\376'
+poke flawed 516 '\003'
+expect 0 "repairs: 3 (tag, first half, second half)" page flawed
+{ ff 512; printf '\000\000\001\243\030\377\126\000\377\377\377\000\142\377\377\377'; } >data_page
+expect 0 "path: 6" page data_page
+says "tag: 18, data"
+
+# a count that can be read but not written
+{ ff 512; printf '\000\000\001\243\001\377\126\377\377\377\377\377\376\377\377\377'; } >counted
+expect 0 "count: 262143 erases" page counted
+expect_none none 1 "repaired page: refused, 2: a number is outside its range" page --repaired none counted
+
+refuse() { # WORDS DETAIL OFFSET BYTES: a page with bytes changed, which is refused
+	cp page flawed
+	poke flawed "$3" "$4"
+	expect_none none 1 "$1" page --repaired none flawed
+	says "$2"
+}
+refuse "page: refused, 3: the block is marked bad" "status byte 00: marked by the factory" 517 '\000'
+refuse "page: refused, 3: the block is marked bad" "status byte FC: went bad in use (late)" 517 '\374'
+refuse "page: refused, 4: the tag byte is not within one bit of a tag" "tag byte 55" 516 '\125'
+refuse "page: refused, 5: the magic is not 56 hex" "expected 56 in spare byte 6" 518 '\145'
+refuse "page: refused, 6: a half of the page is not repairable" "the first half, bytes 0-255" 0 '\374'
+refuse "page: refused, 6: a half of the page is not repairable" "the second half, bytes 256-511" 256 '\374'
+ff 528 >erased_page
+expect 1 "page: refused, 5" page erased_page
+says "the page is erased, all FF"
+ff 527 >short_page
+expect 2 "short_page: ends at offset 527, expected 528 bytes, 512 of data and 16 of spare (refusal 1" page short_page
+expect 2 "page: is the file that is read" page --repaired page --force page
+expect 2 "missing: cannot be read" page missing
+
+# ---- simulate
+
+expect 0 "judged after every event: no rule broken" simulate
+cp out first
+expect 0 "no rule broken" simulate --blocks 1024 --seed 1 --events 20
+check "a seed gives the same history again" cmp first out
+expect 0 "no rule broken" simulate --seed 2
+check "another seed gives another history" test -n "$(cmp first out 2>&1)"
+# what make run shows
+expect 0 "=> OLD table kept, v232: the cut update's new primary was not complete" simulate --seed 645 --events 13
+says "=> NEW table kept, v233: the cut update's new primary was complete"
+says "!CUT in step 1: write 1021 page 0"
+
+# The old table has the version before the last update's, the new one its own.
+kept_as_told() {
+	awk '/ update to v/ { sub(/.*update to v/, ""); new = $0 + 0 }
+		/=> OLD table/ { sub(/.*kept, v/, ""); if (($0 + 1) % 256 != new) exit 1 }
+		/=> NEW table/ { sub(/.*kept, v/, ""); if ($0 + 0 != new) exit 1 }' out
+}
+for blocks in 8 8192 8196 16388 24580 32768; do
+	expect 0 "no rule broken" simulate --blocks $blocks --events 60 --seed $blocks --svg "picture_$blocks"
+	check "the table kept has its version" kept_as_told
+	says "picture written: picture_$blocks"
+	check "the picture is whole" grep -q "^</svg>" "picture_$blocks"
+	check "a cut is drawn" grep -q 'class="cut">CUT' "picture_$blocks"
+done
+expect 0 "No good block is left to mark" simulate --blocks 8 --events 2000
+expect 2 "picture_8: is there already" simulate --svg picture_8
+expect_none none 2 "expected at most 1000 events for a picture" simulate --events 1001 --svg none
+expect_none none 2 "--events 0: expected a number from 1 to 100000" simulate --events 0 --svg none
+expect_none none 2 "--blocks 9: expected a multiple of 4" simulate --blocks 9 --dump none
+expect_none none 2 "--pages-per-block 1: expected at least 4" \
+	simulate --blocks 32768 --pages-per-block 1 --dump none
+expect_none none 2 "one argument too many" simulate --svg none extra
+
+# What a history leaves where it stops can be recovered, and then updated.
+for seed in 1 2 3 4 5 6 7 8 9 10 11 12; do
+	blocks=$((seed % 4 * 8192 + 8192))
+	shape="--blocks $blocks --pages-per-block 5"
+	expect 0 "no rule broken" simulate $shape --seed $seed --events $((seed + 2)) --stop --force \
+		--dump cut --status-out cut_status
+	expect 0 "pair: settled" recover $shape --status cut_status --apply mended --status-out mended_status \
+		--force cut
+	version=$(sed -n 's/^pair: settled, \(version [0-9]*\), .*/\1/p' out)
+	expect 0 "pair: settled, $version," pair $shape --status mended_status mended
+	expect 0 "recover: nothing to do" recover $shape --status mended_status mended
+	expect 0 "pair: settled" update $shape --status mended_status --mark-late 0-7 --apply marked \
+		--status-out marked_status --force mended
+	tail -n 1 out >told
+	expect 0 "pair: settled" pair $shape --status marked_status marked
+	check "a pair is as its plan says" grep -qxF -e "$(cat told)" out
+done
+
+# ---- help, and the manual
+
+for command in pair update recover page simulate; do
+	expect 0 "usage: ream $command" $command --help
+	expect 0 "usage: ream $command" $command --help --nonsense
+done
+expect 0 "usage: ream COMMAND" --help
+expect 0 "ream 1.0" --version
+
+check "no temporary file is left" test -z "$(find . -name '*.??????')"
+
+# The examples of the manual, as printed.
+sed -n '/^\.EX/,/^\.EE/p' "$manual" | sed -n "s/\\\\-/-/g; s/\\\\(aq/'/g; s/\\\\e/\\\\/g; s/^\\$ //p" >examples
+check "the manual has examples" [ -s examples ]
+mkdir manual
+while read -r line; do
+	(
+		cd manual || exit 2
+		ream() { "$ream" "$@"; }
+		eval "$line"
+	) >out 2>err
+	check "an example of the manual: $line" [ $? -le 1 ]
+	check "an example of the manual, which says what is wrong: $line" [ ! -s err ]
+done <examples
+
+if [ $failures -ne 0 ]; then
+	echo "test_ream: $failures of $checks checks failed" >&2
+	exit 1
+fi
+echo "test_ream: $checks checks passed"
