@@ -7,6 +7,9 @@
 #   make host-test  the host test and a fixed run of the power-cut simulator, plain and built with sanitizers
 #   make soak       the power-cut simulator until it is interrupted; SEED=1 HISTORIES=100000 runs so many
 #   make bench      the time of each entry beside the reference's
+#   make install    the library, its header and its pkg-config file, and the tool with its manual where this tree
+#                   has them, into PREFIX=/usr/local; DESTDIR= stages them elsewhere
+#   make uninstall  removes them again
 #   make clean      removes target/
 
 CC ?= cc
@@ -81,3 +84,72 @@ bench: $(host)/bench
 
 clean:
 	rm -rf target
+
+# ---- installing
+
+VERSION := 0.1.0
+PREFIX ?= /usr/local
+DESTDIR ?=
+
+# The tool ream and its manual, where this tree has them.
+tool := $(if $(wildcard host/ream),$(host)/ream)
+manual := $(wildcard man/ream.1)
+
+installed_header := $(DESTDIR)$(PREFIX)/include/reamsickle.h
+installed_library := $(DESTDIR)$(PREFIX)/lib/libreamsickle.a
+installed_pc := $(DESTDIR)$(PREFIX)/lib/pkgconfig/reamsickle.pc
+installed_tool := $(DESTDIR)$(PREFIX)/bin/ream
+installed_manual := $(DESTDIR)$(PREFIX)/share/man/man1/ream.1
+
+.PHONY: install uninstall install-test
+
+install: $(library) $(tool) $(manual)
+	install -d $(dir $(installed_header) $(installed_pc))
+	install -m 644 include/reamsickle.h $(installed_header)
+	install -m 644 $(library) $(installed_library)
+	sed -e 's|@PREFIX@|$(PREFIX)|' -e 's|@VERSION@|$(VERSION)|' reamsickle.pc.in > $(installed_pc)
+	chmod 644 $(installed_pc)
+	$(if $(tool),install -D -m 755 $(tool) $(installed_tool))
+	$(if $(manual),install -D -m 644 $(manual) $(installed_manual))
+
+uninstall:
+	rm -f $(installed_header) $(installed_library) $(installed_pc) $(installed_tool) $(installed_manual)
+
+# What is installed serves C and C++ programs: the header stands alone and gives no warning, and programs are
+# built with the flags of the pkg-config file, which are read from the file itself where pkg-config is missing.
+staged := target/installed
+staged_pc := $(staged)/lib/pkgconfig/reamsickle.pc
+staged_flags = $$(cat $(staged)/flags)
+staged_make = $(MAKE) --no-print-directory -s PREFIX=$(CURDIR)/$(staged) DESTDIR=
+strict := -Wall -Wextra -pedantic -Werror -Wconversion -Wsign-conversion -Wshadow
+
+define small_program
+#include <reamsickle.h>
+int main(void)
+{
+	return ream_refusal(ream_half_code_checked(NULL, 0, NULL, 0)) == REAM_LENGTH ? 0 : 1;
+}
+endef
+
+install-test: $(library) $(tool) $(manual)
+	$(file >target/small_program,$(small_program))
+	rm -rf $(staged)
+	$(staged_make) install
+	if command -v pkg-config; then \
+		pkg-config --cflags --libs $(staged_pc) > $(staged)/flags; \
+	else \
+		sed -n -e 's|$${includedir}|$(staged)/include|' -e 's|$${libdir}|$(staged)/lib|' \
+			-e 's/^Cflags: //p' -e 's/^Libs: //p' $(staged_pc) > $(staged)/flags; \
+	fi
+	echo '#include <reamsickle.h>' | $(CC) -std=c99 $(strict) -fsyntax-only -x c - $(staged_flags)
+	echo '#include <reamsickle.h>' | $(CXX) -std=c++17 $(strict) -fsyntax-only -x c++ - $(staged_flags)
+	$(CC) -std=c99 $(strict) -o $(staged)/small_c -x c target/small_program $(staged_flags)
+	$(staged)/small_c
+	$(CXX) -std=c++17 $(strict) -o $(staged)/small_cxx -x c++ target/small_program $(staged_flags)
+	$(staged)/small_cxx
+	$(CC) $(WARNINGS) -o $(staged)/example host/example.c $(staged_flags)
+	$(staged)/example > $(staged)/example.out
+	$(staged_make) uninstall
+	test -z "$$(find $(staged)/include $(staged)/lib -type f)"
+
+host-test: install-test
