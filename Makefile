@@ -10,6 +10,9 @@
 #   make install    the library, its header and its pkg-config file, and the tool with its manual where this tree
 #                   has them, into PREFIX=/usr/local; DESTDIR= stages them elsewhere
 #   make uninstall  removes them again
+#   make fuzz       all entries under libFuzzer, for FUZZ_TIME=60 seconds; not part of the gate
+#   make corpus     writes the inputs that fuzzing starts from, fuzz/corpus, anew
+#   make valgrind   the host test, the simulator and the example under valgrind; not part of the gate
 #   make clean      removes target/
 
 CC ?= cc
@@ -153,3 +156,57 @@ install-test: $(library) $(tool) $(manual)
 	test -z "$$(find $(staged)/include $(staged)/lib -type f)"
 
 host-test: install-test
+
+# ---- fuzzing
+
+# libFuzzer is a part of clang. The library is not instrumented, as it is native code: see fuzz/fuzz_entries.c.
+FUZZ_CC ?= clang
+FUZZ_TIME ?= 60
+FUZZ_SANITIZE := -g -fsanitize=fuzzer,address,undefined -fno-sanitize-recover=all
+
+fuzz := target/fuzz
+fuzz_headers := $(wildcard fuzz/*.h)
+fuzz_sources := fuzz/fuzz_entries.c fuzz/input.c fuzz/build.c fuzz/fence.c host/calls.c host/lent.c host/drawn.c \
+	host/region.c $(reference)
+
+.PHONY: fuzz corpus replay
+
+$(fuzz)/found:
+	mkdir -p $@
+
+$(fuzz)/fuzz_entries: $(fuzz_sources) $(headers) $(fuzz_headers) $(library) | $(fuzz)/found
+	@echo 'int LLVMFuzzerTestOneInput(const char *d, long n) { return d && n < 0; }' | \
+		$(FUZZ_CC) -fsanitize=fuzzer,address,undefined -x c - -o $(fuzz)/probe || { \
+		echo 'make fuzz needs clang with libFuzzer; on Debian: apt-get install clang libclang-rt-14-dev'; exit 1; }
+	$(FUZZ_CC) $(WARNINGS) $(CFLAGS) $(FUZZ_SANITIZE) -Iinclude -o $@ $(fuzz_sources) $(library)
+
+fuzz: $(fuzz)/fuzz_entries
+	$(fuzz)/fuzz_entries -max_total_time=$(FUZZ_TIME) -max_len=512 -print_final_stats=1 \
+		-artifact_prefix=$(fuzz)/ $(fuzz)/found fuzz/corpus
+
+corpus:
+	rm -rf fuzz/corpus
+	fuzz/make-corpus fuzz/corpus
+
+# The corpus without libFuzzer.
+$(host)/replay: fuzz/replay.c $(fuzz_sources) $(headers) $(fuzz_headers) $(library) | $(host)
+	$(compile) -o $@ fuzz/replay.c $(fuzz_sources) $(library)
+
+replay: $(host)/replay
+	$(host)/replay fuzz/corpus/*
+
+host-test: replay
+
+# ---- valgrind
+
+# valgrind makes a program some fifty times slower, so that the simulator runs fewer histories.
+VALGRIND ?= valgrind --quiet --error-exitcode=1 --leak-check=full
+VALGRIND_HISTORIES ?= 200
+
+.PHONY: valgrind
+
+valgrind: $(host)/host_test $(host)/histories $(host)/example $(host)/replay
+	$(VALGRIND) $(host)/example
+	$(VALGRIND) $(host)/replay fuzz/corpus/*
+	$(VALGRIND) $(host)/histories 1 $(VALGRIND_HISTORIES)
+	$(VALGRIND) $(host)/host_test
