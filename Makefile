@@ -145,11 +145,15 @@ install-test: $(library) $(tool) $(manual)
 			-e 's/^Cflags: //p' -e 's/^Libs: //p' $(staged_pc) > $(staged)/flags; \
 	fi
 	echo '#include <reamsickle.h>' | $(CC) -std=c99 $(strict) -fsyntax-only -x c - $(staged_flags)
-	echo '#include <reamsickle.h>' | $(CXX) -std=c++17 $(strict) -fsyntax-only -x c++ - $(staged_flags)
 	$(CC) -std=c99 $(strict) -o $(staged)/small_c -x c target/small_program $(staged_flags)
 	$(staged)/small_c
-	$(CXX) -std=c++17 $(strict) -o $(staged)/small_cxx -x c++ target/small_program $(staged_flags)
-	$(staged)/small_cxx
+	if command -v $(CXX); then \
+		echo '#include <reamsickle.h>' | $(CXX) -std=c++17 $(strict) -fsyntax-only -x c++ - $(staged_flags) && \
+		$(CXX) -std=c++17 $(strict) -o $(staged)/small_cxx -x c++ target/small_program $(staged_flags) && \
+		$(staged)/small_cxx; \
+	else \
+		echo 'install-test: there is no C++ compiler, so C++ is not tried'; \
+	fi
 	$(CC) $(WARNINGS) -o $(staged)/example host/example.c $(staged_flags)
 	$(staged)/example > $(staged)/example.out
 	$(staged_make) uninstall

@@ -2,6 +2,9 @@
  * Runs inputs of the fuzzed target without libFuzzer: those of a corpus, or one that libFuzzer found.
  *
  *	replay file ..
+ *
+ * An input that differs shows its call and ends the program; a fence that is touched ends it without a word. The
+ * files one by one then tell which it was.
  */
 #include <stdio.h>
 #include <stdlib.h>
