@@ -5,6 +5,7 @@
 #   make run        the example, host/example.c
 #   make test       the gate: all proofs and all tests (.ci/run)
 #   make host-test  the host test and a fixed run of the power-cut simulator, plain and built with sanitizers
+#                   besides, an installation under target/ and the inputs of fuzz/corpus
 #   make soak       the power-cut simulator until it is interrupted; SEED=1 HISTORIES=100000 runs so many
 #   make bench      the time of each entry beside the reference's, and of a half's code beside other C
 #   make install    the library, its header and its pkg-config file, and the tool with its manual where this tree

@@ -245,7 +245,8 @@ static struct fuzz *begin(void)
 	return fuzz;
 }
 
-/* What a call is made with depends on the input alone, whichever inputs came before. */
+/* What a call is made with depends on the input alone, whichever inputs came before. The lengths of the small
+ * chip's entries are the same for every first number. */
 static void run_input(struct fuzz *fuzz, struct input *input)
 {
 	struct test *test = &fuzz->test;
