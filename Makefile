@@ -13,7 +13,8 @@
 #   make uninstall  removes them again
 #   make fuzz       all entries under libFuzzer, for FUZZ_TIME=60 seconds; not part of the gate
 #   make corpus     writes the inputs that fuzzing starts from, fuzz/corpus, anew
-#   make valgrind   the host test, the simulator and the example under valgrind; not part of the gate
+#   make valgrind   the example, the inputs of fuzz/corpus, the simulator and the host test under valgrind; not
+#                   part of the gate. make valgrind-short leaves out the host test, which is long
 #   make clean      removes target/
 
 CC ?= cc
@@ -204,14 +205,17 @@ host-test: replay
 
 # ---- valgrind
 
-# valgrind makes a program some fifty times slower, so that the simulator runs fewer histories.
+# Under valgrind a program is some ninety times slower: the simulator runs fewer histories, and the host test, which
+# comes last, takes about twenty minutes. The others together take one.
 VALGRIND ?= valgrind --quiet --error-exitcode=1 --leak-check=full
 VALGRIND_HISTORIES ?= 200
 
-.PHONY: valgrind
+.PHONY: valgrind valgrind-short
 
-valgrind: $(host)/host_test $(host)/histories $(host)/example $(host)/replay
+valgrind-short: $(host)/example $(host)/replay $(host)/histories
 	$(VALGRIND) $(host)/example
 	$(VALGRIND) $(host)/replay fuzz/corpus/*
 	$(VALGRIND) $(host)/histories 1 $(VALGRIND_HISTORIES)
+
+valgrind: valgrind-short $(host)/host_test
 	$(VALGRIND) $(host)/host_test
