@@ -5,9 +5,11 @@
 #   make run        the example, host/example.c
 #   make test       the gate: all proofs and all tests (.ci/run)
 #   make host-test  the host test and a fixed run of the power-cut simulator, plain and built with sanitizers
-#                   besides, an installation under target/ and the inputs of fuzz/corpus
 #   make soak       the power-cut simulator until it is interrupted; SEED=1 HISTORIES=100000 runs so many
 #   make bench      the time of each entry beside the reference's, and of a half's code beside other C
+#   make install-test, make replay
+#                   an installation under target/ is tried from C and C++; the inputs of fuzz/corpus are compared.
+#                   Both are part of make host-test
 #   make install    the library, its header and its pkg-config file, and the tool with its manual where this tree
 #                   has them, into PREFIX=/usr/local; DESTDIR= stages them elsewhere
 #   make uninstall  removes them again
@@ -32,9 +34,12 @@ test_sources := host/host_test.c host/test_small.c host/test_large.c host/scenes
 	host/calls.c host/lent.c host/drawn.c host/region.c $(reference)
 history_sources := host/histories.c host/history.c host/checker.c host/driver.c host/rig.c host/tally.c \
 	host/lent.c host/drawn.c host/region.c $(reference)
-bench_sources := host/bench.c host/yardstick.c host/region.c $(reference)
+bench_sources := host/bench.c host/region.c $(reference)
 
 compile = $(CC) $(WARNINGS) $(CFLAGS) -Iinclude
+
+# The code of a half in fast C, for the benchmark.
+bench_sources += host/yardstick.c
 
 # What `make soak` runs. 0 histories go on until they are interrupted.
 SEED ?= $(shell date +%s%N)
