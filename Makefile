@@ -129,8 +129,9 @@ uninstall:
 # built with the flags of the pkg-config file, which are read from the file itself where pkg-config is missing.
 staged := target/installed
 staged_pc := $(staged)/lib/pkgconfig/reamsickle.pc
-staged_flags = $$(cat $(staged)/flags)
 staged_make = $(MAKE) --no-print-directory -s PREFIX=$(CURDIR)/$(staged) DESTDIR=
+trials := target/install-test
+trial_flags = $$(cat $(trials)/flags)
 strict := -Wall -Wextra -pedantic -Werror -Wconversion -Wsign-conversion -Wshadow
 
 define small_program
@@ -142,29 +143,30 @@ int main(void)
 endef
 
 install-test: $(library) $(tool) $(manual)
+	rm -rf $(staged) $(trials)
+	mkdir -p $(trials)
 	$(file >target/small_program,$(small_program))
-	rm -rf $(staged)
 	$(staged_make) install
 	if command -v pkg-config; then \
-		pkg-config --cflags --libs $(staged_pc) > $(staged)/flags; \
+		pkg-config --cflags --libs $(staged_pc) > $(trials)/flags; \
 	else \
 		sed -n -e 's|$${includedir}|$(staged)/include|' -e 's|$${libdir}|$(staged)/lib|' \
-			-e 's/^Cflags: //p' -e 's/^Libs: //p' $(staged_pc) > $(staged)/flags; \
+			-e 's/^Cflags: //p' -e 's/^Libs: //p' $(staged_pc) > $(trials)/flags; \
 	fi
-	echo '#include <reamsickle.h>' | $(CC) -std=c99 $(strict) -fsyntax-only -x c - $(staged_flags)
-	$(CC) -std=c99 $(strict) -o $(staged)/small_c -x c target/small_program $(staged_flags)
-	$(staged)/small_c
+	echo '#include <reamsickle.h>' | $(CC) -std=c99 $(strict) -fsyntax-only -x c - $(trial_flags)
+	$(CC) -std=c99 $(strict) -o $(trials)/small_c -x c target/small_program $(trial_flags)
+	$(trials)/small_c
 	if command -v $(CXX); then \
-		echo '#include <reamsickle.h>' | $(CXX) -std=c++17 $(strict) -fsyntax-only -x c++ - $(staged_flags) && \
-		$(CXX) -std=c++17 $(strict) -o $(staged)/small_cxx -x c++ target/small_program $(staged_flags) && \
-		$(staged)/small_cxx; \
+		echo '#include <reamsickle.h>' | $(CXX) -std=c++17 $(strict) -fsyntax-only -x c++ - $(trial_flags) && \
+		$(CXX) -std=c++17 $(strict) -o $(trials)/small_cxx -x c++ target/small_program $(trial_flags) && \
+		$(trials)/small_cxx; \
 	else \
 		echo 'install-test: there is no C++ compiler, so C++ is not tried'; \
 	fi
-	$(CC) $(WARNINGS) -o $(staged)/example host/example.c $(staged_flags)
-	$(staged)/example > $(staged)/example.out
+	$(CC) $(WARNINGS) -o $(trials)/example host/example.c $(trial_flags)
+	$(trials)/example > $(trials)/example.out
 	$(staged_make) uninstall
-	test -z "$$(find $(staged)/include $(staged)/lib -type f)"
+	test -z "$$(find $(staged) -type f)"
 
 host-test: install-test
 
