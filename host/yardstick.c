@@ -35,14 +35,17 @@ void yard_table_make(struct yard_table *table)
 		table->of[byte] = looked_up((uint8_t)byte);
 }
 
+/* Four bits, moved to bits 0, 2, 4 and 6. */
+static unsigned spread(unsigned bits)
+{
+	bits = (bits | bits << 2) & 0x33;
+	return (bits | bits << 1) & 0x55;
+}
+
 /* The stored byte of LP0 to LP7, or of LP8 to LP15: `odd` has the four of odd number, `even` the others. */
 static uint8_t stored_lines(unsigned even, unsigned odd)
 {
-	unsigned lines = 0;
-
-	for (unsigned k = 0; k < 4; k++)
-		lines |= (even >> k & 1) << 2 * k | (odd >> k & 1) << (2 * k + 1);
-	return (uint8_t)~lines;
+	return (uint8_t)~(spread(even) | spread(odd) << 1);
 }
 
 /* The code, from the addresses of all bytes of odd parity, XORed, and the look of all bytes, XORed. A line of
@@ -76,6 +79,15 @@ void yard_by_table(const struct yard_table *table, const uint8_t *half, uint8_t 
 	by_bytes(table, half, HALF, 0, code);
 }
 
+/* The parity of a word's bits, by the table. */
+static unsigned word_parity(const struct yard_table *table, uint64_t word)
+{
+	word ^= word >> 32;
+	word ^= word >> 16;
+	word ^= word >> 8;
+	return table->of[word & 0xFF] >> ODD;
+}
+
 void yard_by_words(const struct yard_table *table, const uint8_t *half, uint8_t *code)
 {
 	uint64_t words[WORDS];
@@ -89,7 +101,7 @@ void yard_by_words(const struct yard_table *table, const uint8_t *half, uint8_t 
 			upper ^= words[count + i];
 			words[i] ^= words[count + i];
 		}
-		lines |= (8 * count) & (0 - parity(upper));
+		lines |= (8 * count) & (0 - word_parity(table, upper));
 	}
 	by_bytes(table, (const uint8_t *)words, 8, lines, code);
 }
