@@ -125,7 +125,8 @@
  *
  *   Buffers may stand at any address; none needs to be aligned.
  *
- * Link with libreamsickle.a; no other library is needed.
+ * Link with libreamsickle.a; no other library is needed. Where `make install` has put both,
+ * `pkg-config --cflags --libs reamsickle` prints the flags. Programs may be C, from C99 on, or C++.
  */
 #ifndef REAMSICKLE_H
 #define REAMSICKLE_H

@@ -1,0 +1,283 @@
+/*
+ * The fuzzed target: an input is one call of one entry. It is made by the library and by the reference and
+ * compared as in the host test (calls.h): the answer, each lent byte, guard bytes, inputs unchanged, and
+ * nothing changed by a refused call. Then the library is called once more, on fenced buffers (fence.h), and has
+ * to do the same. A difference is printed, and ends the program.
+ *
+ * The input's bytes, with zeros past its end:
+ *
+ *	the entry		a byte, modulo 10, in the order of enum entry_index
+ *	guards			a byte: which guard bytes and alignment; bit 0 which side is fenced
+ *	the entry's numbers	take_number() each: tag, path and count; or N; or N and step
+ *	lengths			a byte: below 192 all are as named, otherwise that of one buffer is not, counted
+ *				modulo the buffers; a byte below 128 then adds -64 to 63, otherwise it is the
+ *				next eight bytes
+ *	what is lent		half: take_bytes(); data and spare: lend_page(); marks: take_bytes();
+ *				region and wanted: build_region(), with the second table as wanted
+ *
+ * The library is not instrumented: it is native code as the prover made it. So coverage is that of the
+ * reference, which takes each case of document 01 apart as the library has to, and memory that the library
+ * touches is watched by guards and fences.
+ */
+#include "fuzz_entries.h"
+
+#include <stdio.h>
+#include <stdlib.h>
+#include <string.h>
+
+#include "../host/calls.h"
+#include "../host/reference.h"
+#include "build.h"
+#include "fence.h"
+#include "input.h"
+#include "reamsickle.h"
+
+struct fuzz {
+	struct test test;
+	struct build build;
+	struct fence fence[MOST_BUFFERS];
+};
+
+enum { FILLER = 0x5A };		/* stands where no byte of the input is asked for */
+
+/* The numbers of each entry that are worth trying. */
+static const uint64_t tags[] = {
+	REAM_TAG_FREE, REAM_TAG_LOG_COPYING, REAM_TAG_LOG, REAM_TAG_DATA_COPYING, REAM_TAG_DATA,
+	REAM_TAG_BOOT_COPYING, REAM_TAG_BOOT,
+};
+static const uint64_t paths[] = { 0, 1, 6, REAM_PATH_MAX, REAM_PATH_MAX + 1 };
+static const uint64_t counts[] = { 0, 1, REAM_COUNT_MAX, REAM_COUNT_MAX + 1 };
+static const uint64_t sizes[] = { 8, 12, 1024, 8192, 8196, 16388, 24576, 32764, 32768, 4, 10, 32772 };
+static const uint64_t steps[] = { 0, 1, 2, 3, 4, 5, 6, 7, 8, 9, 10, 11 };
+
+#define TAKE_ONE_OF(input, choices) take_number(input, choices, sizeof(choices) / sizeof(choices[0]))
+
+/* ---- the call that an input asks for */
+
+static void take_numbers(struct input *input, enum entry_index index, uint64_t *number)
+{
+	if (index == SPARE_WRITE) {
+		number[0] = TAKE_ONE_OF(input, tags);
+		number[1] = TAKE_ONE_OF(input, paths);
+		number[2] = TAKE_ONE_OF(input, counts);
+	} else if (index >= SMALL_ENTRIES) {
+		number[0] = TAKE_ONE_OF(input, sizes);
+		number[1] = index >= UPDATE_PAGE ? TAKE_ONE_OF(input, steps) : 0;
+	}
+}
+
+/* Where a length is to be wrong: which buffer, and by how much. */
+struct told {
+	bool wrong;
+	bool whole;	/* is `number` the length itself? */
+	unsigned buffer;
+	uint64_t number;
+};
+
+static struct told take_lengths(struct input *input, enum entry_index index)
+{
+	struct told told = { false, false, 0, 0 };
+	const uint8_t first = take(input);
+	uint8_t second;
+
+	if (first < 192)
+		return told;
+	told.wrong = true;
+	told.buffer = first % entries[index].buffers;
+	second = take(input);
+	told.whole = second >= 128;
+	told.number = told.whole ? take_wide(input, 8) : (uint64_t)second - 64;
+	return told;
+}
+
+/* Tells a length, and sets the bytes past the named length that the buffer then holds. */
+static void tell(struct call *call, const struct told *told)
+{
+	size_t *len = &call->len[told->buffer];
+	const size_t named = lent_held(*len);
+	size_t held;
+
+	if (!told->wrong)
+		return;
+	*len = (size_t)(told->whole ? told->number : *len + told->number);
+	held = lent_held(*len);
+	if (held > named)
+		memset(call->bytes[told->buffer] + named, FILLER, held - named);
+}
+
+/* ---- what is lent */
+
+/* A page's data and its spare: a byte says whether the spare is written for the data, with a tag, a path and a
+ * count, or filled with any bytes. Then bits are flipped in both. */
+static void lend_page(struct input *input, uint8_t *data, uint8_t *spare)
+{
+	take_bytes(input, data, REAM_SMALL_DATA_SIZE);
+	if (take(input) % 2 == 0) {
+		const uint64_t tag = TAKE_ONE_OF(input, tags);
+		const uint64_t path = TAKE_ONE_OF(input, paths);
+		const uint64_t count = TAKE_ONE_OF(input, counts);
+
+		memset(spare, FILLER, REAM_SMALL_SPARE_SIZE);
+		ref_spare_write(data, REAM_SMALL_DATA_SIZE, tag, path, count, spare, REAM_SMALL_SPARE_SIZE);
+	} else {
+		take_bytes(input, spare, REAM_SMALL_SPARE_SIZE);
+	}
+	take_flips(input, data, REAM_SMALL_DATA_SIZE);
+	take_flips(input, spare, REAM_SMALL_SPARE_SIZE);
+}
+
+static void lend_small(struct call *call, struct input *input)
+{
+	uint8_t data[REAM_SMALL_DATA_SIZE];
+
+	switch (call->index) {
+	case HALF_CODE:
+		take_bytes(input, call->bytes[0], REAM_HALF_SIZE);
+		break;
+	case SPARE_WRITE:
+		take_bytes(input, call->bytes[0], REAM_SMALL_DATA_SIZE);
+		break;
+	case SPARE_READ:
+		lend_page(input, data, call->bytes[0]);
+		break;
+	default:
+		lend_page(input, call->bytes[0], call->bytes[1]);
+		break;
+	}
+}
+
+static void lend_region(struct fuzz *fuzz, struct input *input, uint64_t n)
+{
+	const struct region *region = &fuzz->build.region;
+	struct test *test = &fuzz->test;
+
+	build_region(&fuzz->build, input, n);
+	call_lend(test, 0, region->image, region_image_len(region));
+	call_lend(test, 1, region->status, region_status_len(region));
+	if (test->call.index == UPDATE_PLAN || test->call.index == UPDATE_PAGE)
+		call_lend(test, 2, fuzz->build.table[1], (size_t)n / 4);
+}
+
+/* A chip that there is not: its buffers hold as many bytes as fit. */
+static void lend_filler(struct call *call)
+{
+	for (unsigned i = 0; i < entries[call->index].buffers; i++)
+		memset(call->bytes[i], FILLER, lent_held(call->len[i]));
+}
+
+static void lend(struct fuzz *fuzz, struct input *input)
+{
+	struct call *call = &fuzz->test.call;
+
+	if (call->index < SMALL_ENTRIES)
+		lend_small(call, input);
+	else if (ream_table_pages(call->number[0]) == 0)
+		lend_filler(call);
+	else if (call->index == FIRST_BITMAP)
+		take_bytes(input, call->bytes[0], (size_t)call->number[0]);
+	else
+		lend_region(fuzz, input, call->number[0]);
+}
+
+/* ---- the same call on fenced buffers */
+
+static uint64_t call_fenced(const struct call *call, uint8_t **at)
+{
+	const uint64_t *number = call->number;
+	const size_t *len = call->len;
+
+	switch (call->index) {
+	case HALF_CODE:
+		return ream_half_code(at[0], len[0], at[1], len[1]);
+	case SPARE_WRITE:
+		return ream_spare_write(at[0], len[0], number[0], number[1], number[2], at[1], len[1]);
+	case SPARE_READ:
+		return ream_spare_read(at[0], len[0], at[1], len[1]);
+	case PAGE_READ:
+		return ream_page_read(at[0], len[0], at[1], len[1], at[2], len[2]);
+	case FIRST_BITMAP:
+		return ream_first_bitmap(number[0], at[0], len[0], at[1], len[1]);
+	case TABLE_READ:
+		return ream_table_read(number[0], at[0], len[0], at[1], len[1], at[2], len[2]);
+	case UPDATE_PLAN:
+		return ream_update_plan(number[0], at[0], len[0], at[1], len[1], at[2], len[2], at[3], len[3]);
+	case RECOVERY_PLAN:
+		return ream_recovery_plan(number[0], at[0], len[0], at[1], len[1], at[2], len[2]);
+	case UPDATE_PAGE:
+		return ream_update_page(number[0], at[0], len[0], at[1], len[1], at[2], len[2], number[1],
+					at[3], len[3]);
+	case RECOVERY_PAGE:
+		return ream_recovery_page(number[0], at[0], len[0], at[1], len[1], number[1], at[2], len[2]);
+	default:
+		return UINT64_MAX;
+	}
+}
+
+static void compare_fenced(struct fuzz *fuzz, bool at_end)
+{
+	struct test *test = &fuzz->test;
+	const struct call *call = &test->call;
+	const unsigned buffers = entries[call->index].buffers;
+	uint8_t *at[MOST_BUFFERS];
+
+	for (unsigned i = 0; i < buffers; i++)
+		at[i] = fence_lend(&fuzz->fence[i], call->bytes[i], lent_held(call->len[i]), at_end);
+	expect(test, call_fenced(call, at) == test->answer, "the answer on fenced buffers");
+	for (unsigned i = 0; i < buffers; i++)
+		expect(test, memcmp(at[i], call_left(test, i), lent_held(call->len[i])) == 0,
+		       "what fenced buffers hold");
+}
+
+/* ---- an input */
+
+static struct fuzz *begin(void)
+{
+	struct fuzz *fuzz = calloc(1, sizeof(*fuzz));
+	bool made = fuzz != NULL;
+
+	for (unsigned i = 0; made && i < MOST_BUFFERS; i++)
+		made = fence_make(&fuzz->fence[i], LENT_ROOM);
+	if (!made) {
+		printf("fuzz: no memory\n");
+		exit(EXIT_FAILURE);
+	}
+	fuzz->test.trying = "a fuzzed input";
+	return fuzz;
+}
+
+/* What a call is made with depends on the input alone, whichever inputs came before. The lengths of the small
+ * chip's entries are the same for every first number. */
+static void run_input(struct fuzz *fuzz, struct input *input)
+{
+	struct test *test = &fuzz->test;
+	const enum entry_index index = (enum entry_index)(take(input) % ENTRIES);
+	const uint8_t guards = take(input);
+	uint64_t number[MOST_NUMBERS] = { 0, 0, 0 };
+	struct told told;
+
+	take_numbers(input, index, number);
+	told = take_lengths(input, index);
+	test->state = guards;
+	call_begin_large(test, index, number[0]);
+	memcpy(test->call.number, number, sizeof(number));
+	lend(fuzz, input);
+	tell(&test->call, &told);
+	test->calls[index] = guards;
+	call_compare(test);
+	compare_fenced(fuzz, guards % 2 == 0);
+}
+
+int LLVMFuzzerTestOneInput(const uint8_t *data, size_t size)
+{
+	static struct fuzz *fuzz;
+	struct input input = { data, size };
+
+	if (!fuzz)
+		fuzz = begin();
+	run_input(fuzz, &input);
+	if (fuzz->test.differences != 0) {
+		fflush(stdout);
+		abort();
+	}
+	return 0;
+}
