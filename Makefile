@@ -113,7 +113,7 @@ clean:
 
 # ---- installing
 
-VERSION := 0.1.0
+VERSION := $(shell sed -n 's/^\#define REAM_LIBRARY_VERSION "\(.*\)"/\1/p' include/reamsickle.h)
 PREFIX ?= /usr/local
 DESTDIR ?=
 

@@ -134,6 +134,9 @@
 #include <stddef.h>
 #include <stdint.h>
 
+/* The library's own version. (ream_version() gives that of a table or a plan.) */
+#define REAM_LIBRARY_VERSION "1.0"
+
 /* The refusals. */
 enum ream_refusal_number {
 	REAM_OK = 0,		/* answered */

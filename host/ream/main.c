@@ -61,7 +61,7 @@ static enum exit_status run(int argc, char **argv)
 		return EXIT_DONE;
 	}
 	if (strcmp(argv[1], "--version") == 0) {
-		puts("ream 1.0 (Reamsickle)");
+		puts("ream " REAM_LIBRARY_VERSION " (Reamsickle)");
 		return EXIT_DONE;
 	}
 	for (unsigned i = 0; i < sizeof(commands) / sizeof(commands[0]); i++)
