@@ -3,3 +3,4 @@ pub mod Locating
 pub mod Bitmaps
 pub mod Copying
 pub mod Judged
+pub mod Extents

@@ -1,5 +1,5 @@
 -- Document 01: the 64 OOB bytes of a page of a region image, as a part of the caller's slice.
-use mathlib.Core.Bool.{_&&_}
+use mathlib.Core.Bool.{cond, _&&_}
 use mathlib.Core.List.{List, []}
 use mathlib.Core.Path.{_≡_}
 use Prim.Native.Nat.{ℕ, _+_, _*_}
@@ -7,42 +7,53 @@ use denote.Ref.{RefT, now, ptr}
 use lib.Dec.{eqb, ltb}
 use lib.ListN.{length, take, drop}
 use Rattle.bbt.specs.Lent.{onChip, judged}
-use Rattle.chip.specs.Large.{chipOf, pagesOf, regionBytes}
+use Rattle.chip.specs.Large.{chipOf, pagesOf}
 use Rattle.chip.specs.declared.LargeChip.{LargeChip}
+use Rattle.chip.specs.declared.Refusal.the-variants.{Range}
+use Rattle.region.specs.declared.Extent.{Extent}
 use Rattle.region.specs.declared.OobAnswer.{OobAnswer}
 use Rattle.region.specs.declared.OobAnswer.the-variants.{Given, Refused}
 
--- the image's length (1), then block and page (2)
-unfoldable pub oobOn : LargeChip → ℕ → ℕ → ℕ → OobAnswer
-oobOn chip size block page = judged Refused (eqb size (regionBytes chip)) (ltb block (chip .region) && ltb page (pagesOf chip)) Given
+-- how far a chip's region image reaches; with N refused, nowhere
+abbrev pub extentOn : LargeChip → Extent
+extentOn chip = record { region = chip .region; pages = pagesOf chip }
 
--- N first (2)
-unfoldable pub oobAnswer : ℕ → ℕ → ℕ → ℕ → OobAnswer
-oobAnswer n size block page = onChip Refused (chipOf n) (λ chip. oobOn chip size block page)
+unfoldable pub extentOf : ℕ → Extent
+extentOf n = onChip (λ r. record { region = 0; pages = 0 }) (chipOf n) extentOn
+
+-- the image's length (1), then block and page (2)
+abbrev pub oobIn : Extent → ℕ → ℕ → ℕ → OobAnswer
+oobIn e size block page = judged Refused (eqb size (e .region * e .pages * 2112)) (ltb block (e .region) && ltb page (e .pages)) Given
+
+-- N before these (2): where it is refused there are no pages
+unfoldable pub oobAnswer : Extent → ℕ → ℕ → ℕ → OobAnswer
+oobAnswer e size block page = cond (eqb (e .pages) 0) (Refused Range) (oobIn e size block page)
+
+-- so the answer of the extent of N is N's own refusal, or what is said on its chip
+abbrev pub JudgesN : ℕ → ℕ → ℕ → ℕ → Type 0
+JudgesN n size block page = oobAnswer (extentOf n) size block page ≡ onChip Refused (chipOf n) (λ chip. oobIn (extentOn chip) size block page)
 
 -- where the OOB bytes of a page start
-abbrev pub oobStart : LargeChip → ℕ → ℕ → ℕ
-oobStart chip block page = (block * pagesOf chip + page) * 2112 + 2048
+abbrev pub oobStart : Extent → ℕ → ℕ → ℕ
+oobStart e block page = (block * e .pages + page) * 2112 + 2048
 
 -- the bytes: none beside a refusal
 abbrev pub oobBy : OobAnswer → List ℕ → ℕ → List ℕ
 oobBy Given image at = take 64 (drop at image)
 oobBy (Refused r) image at = []
 
-unfoldable pub oobBytes : ℕ → List ℕ → ℕ → ℕ → List ℕ
-oobBytes n image block page =
-    onChip (λ r. []) (chipOf n) (λ chip. oobBy (oobAnswer n (length image) block page) image (oobStart chip block page))
+unfoldable pub oobBytes : Extent → List ℕ → ℕ → ℕ → List ℕ
+oobBytes e image block page = oobBy (oobAnswer e (length image) block page) image (oobStart e block page)
 
 -- where they lie: in the image's own block of memory, from the image's offset on; an empty part lies at the image's start
 abbrev pub placeBy : OobAnswer → ℕ × ℕ → ℕ → ℕ × ℕ
 placeBy Given image at = (image .0, at + image .1)
 placeBy (Refused r) image at = image
 
-unfoldable pub oobPlace : ℕ → ℕ × ℕ → ℕ → ℕ → ℕ → ℕ × ℕ
-oobPlace n image size block page =
-    onChip (λ r. image) (chipOf n) (λ chip. placeBy (oobAnswer n size block page) image (oobStart chip block page))
+unfoldable pub oobPlace : Extent → ℕ × ℕ → ℕ → ℕ → ℕ → ℕ × ℕ
+oobPlace e image size block page = placeBy (oobAnswer e size block page) image (oobStart e block page)
 
 -- the part r that is handed back of an image: its bytes, and where it lies
-pub record OobOf (n : ℕ) (image : RefT (List ℕ)) (block page : ℕ) (r : RefT (List ℕ)) : Type 0 where
-  pub bytes : now r ≡ oobBytes n (now image) block page
-  pub place : ptr r ≡ oobPlace n (ptr image) (length (now image)) block page
+pub record OobOf (e : Extent) (image : RefT (List ℕ)) (block page : ℕ) (r : RefT (List ℕ)) : Type 0 where
+  pub bytes : now r ≡ oobBytes e (now image) block page
+  pub place : ptr r ≡ oobPlace e (ptr image) (length (now image)) block page

@@ -12,7 +12,7 @@ ghost use Rattle.bbt.specs.Stored.{storedParts, storedTable};
 ghost use Rattle.bbt.specs.Told.{toldCase};
 ghost use Rattle.chip.specs.Large.{bitmapBytes, pagesOf};
 ghost use Rattle.region.specs.Cases.{Fits, isSigned, pageMatches, locatedBy, besideLent, caseOn, lentCase};
-ghost use Rattle.region.specs.Oob.{OobOf, oobAnswer, oobOn};
+ghost use Rattle.region.specs.Oob.{OobOf, extentOf, oobAnswer};
 ghost use Rattle.region.specs.Parts.{partOf};
 ghost use Rattle.region.specs.Tables.{tableAfter, tableAnswer};
 ghost use Rattle.region.specs.Targets.{toldTarget, lentTarget};
@@ -383,53 +383,68 @@ pub fn read_table(n: u64, image: &[u8], status: &[u8], bitmap: &mut [u8]) -> Tab
     }
 }
 
+// How far a region image reaches: how many blocks the region has, and P, the pages of each. Both are 0 where N is refused.
+pub struct Extent {
+    pub region: u8,
+    pub pages: u8,
+}
+
+impl Extent {
+    // The extent of the region of a chip of n blocks.
+    pub fn of(n: u64) -> Extent
+        ensures { λ r. ⌜ r ≡ extentOf n ⌝ }
+    {
+        match LargeChip::new(n) {
+            ChipAnswer::Refused(_) => Extent {
+                region: 0,
+                pages: 0,
+            },
+            ChipAnswer::Chip(chip) => Extent {
+                region: chip.region,
+                pages: chip.pages() as u8,
+            },
+        }
+    }
+}
+
 // What is told of a page's OOB bytes: they are given, or refused.
 pub enum OobAnswer {
     Given,
     Refused(Refusal),
 }
 
-// Judges a request for OOB bytes on a judged chip: the image's length, then block and page.
-fn oob_on(chip: LargeChip, length: usize, block: RegionBlock, page: u8) -> OobAnswer
-    ensures { λ r. ⌜ r ≡ oobOn chip length (block .0) page ⌝ }
+// Judges a request for OOB bytes: N, which is refused where P is 0, then the image's length, then block and page.
+pub fn oob_answer(extent: Extent, image: &[u8], block: RegionBlock, page: u8) -> OobAnswer
+    ensures { λ r. ⌜ r ≡ oobAnswer extent (length (now (image .entry))) (block .0) page ⌝ }
 {
-    if length != chip.region_bytes() {
-        return OobAnswer::Refused(Refusal::Length);
-    }
-    if chip.region <= block.0 {
+    if extent.pages == 0 {
         return OobAnswer::Refused(Refusal::Range);
     }
-    if chip.pages() <= (page as usize) {
+    let bytes = (extent.region as usize) * (extent.pages as usize) * LargeChip::PAGE_WITH_OOB;
+    if image.len() != bytes {
+        return OobAnswer::Refused(Refusal::Length);
+    }
+    if extent.region <= block.0 {
+        return OobAnswer::Refused(Refusal::Range);
+    }
+    if extent.pages <= page {
         return OobAnswer::Refused(Refusal::Range);
     }
     OobAnswer::Given
 }
 
-// Judges a request for OOB bytes: N, then the image's length, then block and page.
-pub fn oob_answer(n: u64, length: usize, block: RegionBlock, page: u8) -> OobAnswer
-    ensures { λ r. ⌜ r ≡ oobAnswer n length (block .0) page ⌝ }
-{
-    match LargeChip::new(n) {
-        ChipAnswer::Refused(r) => OobAnswer::Refused(r),
-        ChipAnswer::Chip(chip) => oob_on(chip, length, block, page),
-    }
-}
-
 // The 64 OOB bytes of a page, as a part of the image; an empty part beside a refusal.
-pub fn oob(n: u64, image: &[u8], block: RegionBlock, page: u8) -> &[u8]
-    ensures { λ r. ⌜ OobOf n (image .entry) (block .0) page r ⌝ }
+pub fn oob(extent: Extent, image: &[u8], block: RegionBlock, page: u8) -> &[u8]
+    ensures { λ r. ⌜ OobOf extent (image .entry) (block .0) page r ⌝ }
 {
-    match LargeChip::new(n) {
-        ChipAnswer::Refused(_) => &image[..0],
-        ChipAnswer::Chip(chip) => match oob_on(chip, image.len(), block, page) {
-            OobAnswer::Refused(_) => &image[..0],
-            OobAnswer::Given => {
-                let at = ((block.0 as usize) * chip.pages() + (page as usize))
-                    * LargeChip::PAGE_WITH_OOB
-                    + LargeChip::PAGE;
-                let end = at + LargeChip::OOB;
-                &image[at..end]
-            }
-        },
+    match oob_answer(extent, image, block, page) {
+        OobAnswer::Refused(_) => &image[..0],
+        OobAnswer::Given => {
+            let at = ((block.0 as usize) * (extent.pages as usize) + (page as usize))
+                * LargeChip::PAGE_WITH_OOB
+                + LargeChip::PAGE;
+            let end = at + LargeChip::OOB;
+            &image[at..end]
+        }
     }
 }

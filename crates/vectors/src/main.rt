@@ -1,12 +1,15 @@
 // Runs the examples of document 01 that are not in the proved table, and the published vectors, through the entries, and compares.
 // data/half-codes: a line is 256 bytes and the three of their code, in hexadecimal. data/spares: a line is 16 spare bytes, the answer's
-// number and detail, and the 11 bytes of fields, EE where they are left as they were. Writes a line for each file, for the erased page and for each number of blocks.
+// number and detail, and the 11 bytes of fields, EE where they are left as they were. Writes a line for each file, for the erased page, for each number of blocks
+// and for each page that a view is asked for.
 ghost use mathlib.Core.Path.{_≡_};
 ghost use Prim.Native.Nat.{_*_, _<_};
 ghost use lib.ListN.{length};
 use chip::ChipAnswer;
 use chip::LargeChip;
+use chip::RegionBlock;
 use libc::STDOUT_FILENO;
+use region::OobAnswer;
 
 fn put(text: &[u8]) {
     io::write_all(STDOUT_FILENO, text);
@@ -178,6 +181,83 @@ fn blocks(n: u64) {
     put(b"\n");
 }
 
+// Byte i of the image that views are asked for: at an even place the page, counted through the region, at an odd one the place in the page, modulo 256.
+fn marked(i: usize) -> u8 {
+    if i % 2 == 0 {
+        (i / LargeChip::PAGE_WITH_OOB % 256) as u8
+    } else {
+        (i % LargeChip::PAGE_WITH_OOB % 256) as u8
+    }
+}
+
+fn mark(image: &mut [u8]) {
+    let mut i: usize = 0;
+    while i < image.len() {
+        image[i] = marked(i);
+        i += 1;
+    }
+}
+
+fn hex(bytes: &[u8]) {
+    let mut i: usize = 0;
+    while i < bytes.len() {
+        io::print_hex(STDOUT_FILENO, wide(bytes[i]), 2);
+        i += 1;
+    }
+}
+
+// What a view answers of a page, and the part that it hands back.
+fn asked(n: u64, image: &[u8], block: u8, page: u8) {
+    put(b"view of ");
+    io::print_decimal(STDOUT_FILENO, n);
+    put(b" blocks, block ");
+    io::print_decimal(STDOUT_FILENO, wide(block));
+    put(b", page ");
+    io::print_decimal(STDOUT_FILENO, wide(page));
+    match view::answer_of(n, image, RegionBlock(block), page) {
+        OobAnswer::Given => put(b": given, "),
+        OobAnswer::Refused(r) => {
+            put(b": refusal ");
+            io::print_decimal(STDOUT_FILENO, wide(r.number()));
+            put(b", ");
+        }
+    }
+    let part = view::oob_of(n, image, RegionBlock(block), page);
+    io::print_decimal(STDOUT_FILENO, part.len() as u64);
+    put(b" bytes");
+    if part.len() != 0 {
+        put(b" ");
+        hex(part);
+    }
+    put(b"\n");
+}
+
+// First and last block and page where P is 1 and where P is 4; then N out of range, another length, and block or page out of range, each with what comes later
+// in the order wrong as well.
+fn views(one: &[u8], four: &[u8]) {
+    asked(8192, one, 0, 0);
+    asked(8192, one, 3, 0);
+    asked(32768, four, 0, 0);
+    asked(32768, four, 0, 3);
+    asked(32768, four, 3, 0);
+    asked(32768, four, 3, 3);
+    asked(10, one, 4, 4);
+    asked(8192, four, 4, 4);
+    asked(8192, one, 4, 0);
+    asked(8192, one, 3, 1);
+    asked(32768, four, 4, 3);
+    asked(32768, four, 3, 4);
+}
+
+// The views of marked images, for P = 1 and P = 4.
+fn marked_views() {
+    let mut one = [0u8; 8448];
+    let mut four = [0u8; 33792];
+    mark(&mut one);
+    mark(&mut four);
+    views(&one, &four);
+}
+
 fn main() {
     run(b"half-codes", Kind::HalfCodes);
     run(b"spares", Kind::Spares);
@@ -187,4 +267,5 @@ fn main() {
     blocks(4);
     blocks(10);
     blocks(32772);
+    marked_views();
 }
