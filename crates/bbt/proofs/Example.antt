@@ -16,18 +16,18 @@ use Rattle.bbt.specs.declared.Kind.the-variants.{Primary, Mirror}
 use Rattle.bbt.specs.Copies.{Table, all, also, find, good, highest, isMarked, isPage, pagePart, pageVersion, parts, readsBad, table}
 use Rattle.bbt.specs.Entries.{updatedByte, updatedBytes, updatedEntry}
 use Rattle.bbt.specs.Example.{chip8, oldTable, newTable, RunsTo, Examples}
-use Rattle.bbt.specs.Histories.{OthersKept, Written, Last, one-table, NewPrimary, Snapshot, pending, closed, begun, as-closed, was-complete, was-not, snapshot, answer, asked, empty, holding, world, update-planned, recovery-planned, step-done, step-cut, History, start, next}
-use Rattle.bbt.specs.Images.{page-image, chunk, imageAt, imageData, imageTail, pageImage, image, planImage}
+use Rattle.bbt.specs.Histories.{OthersKept, Written, Last, one-table, NewPrimary, Snapshot, pending, closed, asPlanned, as-closed, was-complete, was-not, snapshot, answer, asked, empty, holding, world, update-planned, recovery-planned, step-done, step-cut, History, start, next}
+use Rattle.bbt.specs.Images.{page-image, chunk, imageAt, imageData, imageTail, partImage, pageImage, planImage}
 use Rattle.bbt.specs.Lent.{lentPlan, planned, regionLent, statusesRight}
 use Rattle.bbt.specs.Pages.{badPage, kindOf, kindOfWord, pageBytes, pageOf, sameKind, seen}
 use Rattle.bbt.specs.Pairs.{bothCase, caseOf, compared, difference, pairCase, same, signedOf}
-use Rattle.bbt.specs.Plans.{erase, write, Plan, single, double, plan, writes, copySteps, stepsOf, holds, readCase, reading, nextVersion, updated, updateFrom, update, member, target, recoverTo, recoverNewer, recoverCase, recovery, Call, for-update, for-recovery, firstPlan}
+use Rattle.bbt.specs.Plans.{erase, write, Plan, single, double, plan, writes, copySteps, stepsOf, holds, readCase, reading, nextVersion, updated, updateFrom, update, member, target, recoverTo, recoverNewer, recoverCase, recovery, Call, for-update, for-recovery, planByRules}
 use Rattle.bbt.specs.Possible.{Bytes}
 use Rattle.bbt.specs.Regions.{Region, view, statusAt, bytesAt, Blank, Complete, Unreadable, Kept}
 use Rattle.bbt.proofs.LeftPages.{Judged, judge}
 use Rattle.bbt.proofs.Planning.{asked-is}
 use Rattle.bbt.proofs.Searches.{all-at, same-eq}
-use Rattle.bbt.proofs.Small.{small-append, small-replicate, image-bytes}
+use Rattle.bbt.proofs.AllBytes.{bytes-append, bytes-replicate, image-bytes}
 
 ok8 : Judged chip8
 unfolding chipOf isBlocks
@@ -35,26 +35,26 @@ ok8 = judge 8 chip8 refl
 
 -- ---- pages and regions
 blank : Bytes 2112 (replicate 2112 255)
-blank = record { as-many = length-replicate {A = ℕ} 2112 255; small = small-replicate 2112 }
+blank = record { as-many = length-replicate {A = ℕ} 2112 255; below-256 = bytes-replicate 2112 }
 
 zeros : Bytes 2112 (replicate 2112 0)
-zeros = record { as-many = length-replicate {A = ℕ} 2112 0; small = each 2112 }
+zeros = record { as-many = length-replicate {A = ℕ} 2112 0; below-256 = each 2112 }
   where
     each : (n i : ℕ) → getD (replicate n 0) i 0 < 256
     each zero i = lit< tt
     each (suc n) zero = lit< tt
     each (suc n) (suc i) = each n i
 
-of-old : (k : Kind) → Bytes 2112 (image k oldTable 0)
-of-old k = image-bytes k oldTable 0 (record { version-small = lit< tt; bitmap-small = each })
+of-old : (k : Kind) → Bytes 2112 (pageImage k oldTable 0)
+of-old k = image-bytes k oldTable 0 (record { version-below = lit< tt; bitmap-bytes = each })
   where
     each : (i : ℕ) → getD (255 ∷ 255 ∷ []) i 0 < 256
     each zero = lit< tt
     each (suc zero) = lit< tt
     each (suc (suc i)) = lit< tt
 
-of-new : (k : Kind) → Bytes 2112 (image k newTable 0)
-of-new k = image-bytes k newTable 0 (record { version-small = lit< tt; bitmap-small = each })
+of-new : (k : Kind) → Bytes 2112 (pageImage k newTable 0)
+of-new k = image-bytes k newTable 0 (record { version-below = lit< tt; bitmap-bytes = each })
   where
     each : (i : ℕ) → getD (127 ∷ 255 ∷ []) i 0 < 256
     each zero = lit< tt
@@ -84,7 +84,7 @@ region x hx {a} {b} {c} {d} ha hb hc hd = record {
     hd .as-many,
   );
   status-length = refl;
-  image-bytes = small-append a (b ++ (c ++ d)) (ha .small) (small-append b (c ++ d) (hb .small) (small-append c d (hc .small) (hd .small)));
+  image-bytes = bytes-append a (b ++ (c ++ d)) (ha .below-256) (bytes-append b (c ++ d) (hb .below-256) (bytes-append c d (hc .below-256) (hd .below-256)));
   status-bits = first-bit x hx;
 }
 
@@ -118,27 +118,27 @@ wanted = 127 ∷ 255 ∷ []
 
 -- ---- what is computed: readings, plans, page images
 r0-reads : reading chip8 (view r0) ≡ holds 0 1 oldTable
-unfolding reading readCase pairCase caseOf compared bothCase difference signedOf find also good all isPage sameKind pageVersion seen pageOf badPage pageBytes kindOf kindOfWord same image pageImage imageData imageTail chunk table parts pagePart
+unfolding reading readCase pairCase caseOf compared bothCase difference signedOf find also good all isPage sameKind pageVersion seen pageOf badPage pageBytes kindOf kindOfWord same pageImage partImage imageData imageTail chunk table parts pagePart
 r0-reads = refl
 
 old-reads : reading chip8 (view endOld) ≡ holds 3 1 oldTable
-unfolding reading readCase pairCase caseOf compared bothCase difference signedOf find also good all isPage sameKind pageVersion seen pageOf badPage pageBytes kindOf kindOfWord same image pageImage imageData imageTail chunk table parts pagePart
+unfolding reading readCase pairCase caseOf compared bothCase difference signedOf find also good all isPage sameKind pageVersion seen pageOf badPage pageBytes kindOf kindOfWord same pageImage partImage imageData imageTail chunk table parts pagePart
 old-reads = refl
 
 new-reads : reading chip8 (view endNew) ≡ holds 0 1 newTable
-unfolding reading readCase pairCase caseOf compared bothCase difference signedOf find also good all isPage sameKind pageVersion seen pageOf badPage pageBytes kindOf kindOfWord same image pageImage imageData imageTail chunk table parts pagePart
+unfolding reading readCase pairCase caseOf compared bothCase difference signedOf find also good all isPage sameKind pageVersion seen pageOf badPage pageBytes kindOf kindOfWord same pageImage partImage imageData imageTail chunk table parts pagePart
 new-reads = refl
 
 update-plan : answer (for-update wanted) (snapshot r0) ≡ plan (double 0 1 newTable)
-unfolding planned chipOf isBlocks lentPlan regionLent statusesRight firstPlan update updateFrom updated updatedBytes updatedByte updatedEntry nextVersion reading readCase pairCase caseOf compared bothCase difference signedOf find also good all isPage sameKind pageVersion seen pageOf badPage pageBytes kindOf kindOfWord same image pageImage imageData imageTail chunk table parts pagePart
+unfolding planned chipOf isBlocks lentPlan regionLent statusesRight planByRules update updateFrom updated updatedBytes updatedByte updatedEntry nextVersion reading readCase pairCase caseOf compared bothCase difference signedOf find also good all isPage sameKind pageVersion seen pageOf badPage pageBytes kindOf kindOfWord same pageImage partImage imageData imageTail chunk table parts pagePart
 update-plan = refl
 
 old-plan : answer for-recovery (snapshot cutOld) ≡ plan (single Primary 3 1 oldTable)
-unfolding planned chipOf isBlocks lentPlan regionLent statusesRight firstPlan recovery recoverCase recoverTo recoverNewer target highest member readsBad isMarked reading readCase pairCase caseOf compared bothCase difference signedOf find also good all isPage sameKind pageVersion seen pageOf badPage pageBytes kindOf kindOfWord same image pageImage imageData imageTail chunk table parts pagePart
+unfolding planned chipOf isBlocks lentPlan regionLent statusesRight planByRules recovery recoverCase recoverTo recoverNewer target highest member readsBad isMarked reading readCase pairCase caseOf compared bothCase difference signedOf find also good all isPage sameKind pageVersion seen pageOf badPage pageBytes kindOf kindOfWord same pageImage partImage imageData imageTail chunk table parts pagePart
 old-plan = refl
 
 new-plan : answer for-recovery (snapshot cutNew) ≡ plan (single Mirror 1 0 newTable)
-unfolding planned chipOf isBlocks lentPlan regionLent statusesRight firstPlan recovery recoverCase recoverTo recoverNewer target highest member readsBad isMarked reading readCase pairCase caseOf compared bothCase difference signedOf find also good all isPage sameKind pageVersion seen pageOf badPage pageBytes kindOf kindOfWord same image pageImage imageData imageTail chunk table parts pagePart
+unfolding planned chipOf isBlocks lentPlan regionLent statusesRight planByRules recovery recoverCase recoverTo recoverNewer target highest member readsBad isMarked reading readCase pairCase caseOf compared bothCase difference signedOf find also good all isPage sameKind pageVersion seen pageOf badPage pageBytes kindOf kindOfWord same pageImage partImage imageData imageTail chunk table parts pagePart
 new-plan = refl
 
 -- the page image of a plan's second step
@@ -169,31 +169,31 @@ others-written r s z k t e b zero hb hp n = kept-by r s z e b 0 hb hp (λ h. n (
 others-written r s z k t e b (suc p) hb hp n = absurd (omega arith)
 
 r0-r1 : keepsOthers r0 r1 0 ≡ true
-unfolding keepsOthers all same pageBytes image pageImage imageData imageTail chunk
+unfolding keepsOthers all same pageBytes pageImage partImage imageData imageTail chunk
 r0-r1 = refl
 
 r1-cutOld : keepsOthers r1 cutOld 0 ≡ true
-unfolding keepsOthers all same pageBytes image pageImage imageData imageTail chunk
+unfolding keepsOthers all same pageBytes pageImage partImage imageData imageTail chunk
 r1-cutOld = refl
 
 cutOld-cutOld : keepsOthers cutOld cutOld 3 ≡ true
-unfolding keepsOthers all same pageBytes image pageImage imageData imageTail chunk
+unfolding keepsOthers all same pageBytes pageImage partImage imageData imageTail chunk
 cutOld-cutOld = refl
 
 cutOld-endOld : keepsOthers cutOld endOld 3 ≡ true
-unfolding keepsOthers all same pageBytes image pageImage imageData imageTail chunk
+unfolding keepsOthers all same pageBytes pageImage partImage imageData imageTail chunk
 cutOld-endOld = refl
 
 r1-cutNew : keepsOthers r1 cutNew 0 ≡ true
-unfolding keepsOthers all same pageBytes image pageImage imageData imageTail chunk
+unfolding keepsOthers all same pageBytes pageImage partImage imageData imageTail chunk
 r1-cutNew = refl
 
 cutNew-wipedNew : keepsOthers cutNew wipedNew 1 ≡ true
-unfolding keepsOthers all same pageBytes image pageImage imageData imageTail chunk
+unfolding keepsOthers all same pageBytes pageImage partImage imageData imageTail chunk
 cutNew-wipedNew = refl
 
 wipedNew-endNew : keepsOthers wipedNew endNew 1 ≡ true
-unfolding keepsOthers all same pageBytes image pageImage imageData imageTail chunk
+unfolding keepsOthers all same pageBytes pageImage partImage imageData imageTail chunk
 wipedNew-endNew = refl
 
 -- ---- pages left by the steps
@@ -202,27 +202,27 @@ wiped s b h zero l = h
 wiped s b h (suc p) l = absurd (omega arith)
 
 r1-blank : Blank r1 0 0
-unfolding pageBytes image pageImage imageData imageTail chunk
+unfolding pageBytes pageImage partImage imageData imageTail chunk
 r1-blank = record { well = refl; all-ff = refl }
 
 cutOld-blank : Blank cutOld 3 0
-unfolding pageBytes image pageImage imageData imageTail chunk
+unfolding pageBytes pageImage partImage imageData imageTail chunk
 cutOld-blank = record { well = refl; all-ff = refl }
 
 wipedNew-blank : Blank wipedNew 1 0
-unfolding pageBytes image pageImage imageData imageTail chunk
+unfolding pageBytes pageImage partImage imageData imageTail chunk
 wipedNew-blank = record { well = refl; all-ff = refl }
 
-endOld-complete : Complete endOld 3 0 (image Primary oldTable 0)
-unfolding pageBytes image pageImage imageData imageTail chunk
+endOld-complete : Complete endOld 3 0 (pageImage Primary oldTable 0)
+unfolding pageBytes pageImage partImage imageData imageTail chunk
 endOld-complete = record { well = refl; data-as-asked = refl; oob-as-asked = refl }
 
-cutNew-complete : Complete cutNew 0 0 (image Primary newTable 0)
-unfolding pageBytes image pageImage imageData imageTail chunk
+cutNew-complete : Complete cutNew 0 0 (pageImage Primary newTable 0)
+unfolding pageBytes pageImage partImage imageData imageTail chunk
 cutNew-complete = record { well = refl; data-as-asked = refl; oob-as-asked = refl }
 
-endNew-complete : Complete endNew 1 0 (image Mirror newTable 0)
-unfolding pageBytes image pageImage imageData imageTail chunk
+endNew-complete : Complete endNew 1 0 (pageImage Mirror newTable 0)
+unfolding pageBytes pageImage partImage imageData imageTail chunk
 endNew-complete = record { well = refl; data-as-asked = refl; oob-as-asked = refl }
 
 written : (s : Region chip8) (b : ℕ) (a : Snapshot chip8) (call : Call) (q : Plan) (l : List ℕ) → answer call a ≡ plan q
@@ -231,10 +231,10 @@ written s b a call q l e f h = record { page = l; given = second-image a call q 
 
 -- ---- the histories
 -- planned, and block 0 erased
-begun-history : History (world r0 empty (one-table oldTable))
+planned-history : History (world r0 empty (one-table oldTable))
     (world r1 (holding (for-update wanted) (snapshot r0) 1 (write 0 0 Primary newTable ∷ erase 1 ∷ write 1 0 Mirror newTable ∷ [])) (pending oldTable newTable 0))
-unfolding begun stepsOf copySteps writes updated updatedBytes updatedByte updatedEntry nextVersion same
-begun-history =
+unfolding asPlanned stepsOf copySteps writes updated updatedBytes updatedByte updatedEntry nextVersion same
+planned-history =
     next (next start (update-planned wanted 0 1 oldTable (double 0 1 newTable) update-plan r0-reads))
     (step-done r1 (pending oldTable newTable 0) (others-erased r0 r1 0 r0-r1) (wiped r1 0 r1-blank) refl)
 
@@ -251,12 +251,12 @@ keeps-old = (
   endOld,
   snapshot cutOld,
   r0-reads,
-  next (next (next (next begun-history
+  next (next (next (next planned-history
       (step-cut cutOld l (others-written r1 cutOld 0 Primary newTable r1-cutOld) (inr (inr cutOld-unreadable)) (was-not not-complete)))
       (recovery-planned (single Primary 3 1 oldTable) l old-plan as-closed))
       (step-done cutOld l (others-erased cutOld cutOld 3 cutOld-cutOld) (wiped cutOld 3 cutOld-blank) refl))
       (step-done endOld l (others-written cutOld endOld 3 Primary oldTable cutOld-endOld)
-      (written endOld 3 (snapshot cutOld) for-recovery (single Primary 3 1 oldTable) (image Primary oldTable 0) old-plan refl endOld-complete) as-closed),
+      (written endOld 3 (snapshot cutOld) for-recovery (single Primary 3 1 oldTable) (pageImage Primary oldTable 0) old-plan refl endOld-complete) as-closed),
   old-reads,
 )
   where
@@ -274,14 +274,14 @@ keeps-new = (
   endNew,
   snapshot cutNew,
   r0-reads,
-  next (next (next (next begun-history
+  next (next (next (next planned-history
       (step-cut cutNew l (others-written r1 cutNew 0 Primary newTable r1-cutNew)
-      (inr (inl (written cutNew 0 (snapshot r0) (for-update wanted) (double 0 1 newTable) (image Primary newTable 0) update-plan refl cutNew-complete)))
+      (inr (inl (written cutNew 0 (snapshot r0) (for-update wanted) (double 0 1 newTable) (pageImage Primary newTable 0) update-plan refl cutNew-complete)))
       (was-complete complete)))
       (recovery-planned (single Mirror 1 0 newTable) l new-plan as-closed))
       (step-done wipedNew l (others-erased cutNew wipedNew 1 cutNew-wipedNew) (wiped wipedNew 1 wipedNew-blank) refl))
       (step-done endNew l (others-written wipedNew endNew 1 Mirror newTable wipedNew-endNew)
-      (written endNew 1 (snapshot cutNew) for-recovery (single Mirror 1 0 newTable) (image Mirror newTable 0) new-plan refl endNew-complete) as-closed),
+      (written endNew 1 (snapshot cutNew) for-recovery (single Mirror 1 0 newTable) (pageImage Mirror newTable 0) new-plan refl endNew-complete) as-closed),
   new-reads,
 )
   where

@@ -16,7 +16,7 @@ use Rattle.chip.specs.declared.LargeChip.{LargeChip}
 use Rattle.bbt.specs.declared.Kind.{Kind}
 use Rattle.bbt.specs.declared.Kind.the-variants.{Primary, Mirror, Neither}
 use Rattle.bbt.specs.Copies.{Table, pageVersion, pagePart, isPage, parts, good, table}
-use Rattle.bbt.specs.Images.{chunk, imageData, imageTail, pageImage, image}
+use Rattle.bbt.specs.Images.{chunk, imageData, imageTail, partImage, pageImage}
 use Rattle.bbt.specs.Pages.{Page, unreadable, marked, reads, sameKind, kindOfWord, kindOf, versionOf, partLength, badPage, pageOf, seen}
 use Rattle.bbt.specs.Regions.{Region, view, statusAt, bytesAt, Blank, Complete, Unreadable, Kept}
 use Rattle.bbt.proofs.Raw.{Valid, chip-valid, page-byte, page-below, page-length}
@@ -58,16 +58,16 @@ pub chunk-length : (p : ℕ) (bitmap : List ℕ) → length (chunk p bitmap) ≤
 unfolding chunk
 chunk-length p bitmap = omega (arith, length-take 2048 (drop (2048 * p) bitmap))
 
-image-tail : (k : Kind) (t : Table) (p : ℕ) → drop 2062 (image k t p) ≡ imageTail k (t .version)
-unfolding image pageImage
+image-tail : (k : Kind) (t : Table) (p : ℕ) → drop 2062 (pageImage k t p) ≡ imageTail k (t .version)
+unfolding pageImage partImage
 image-tail k t p =
     let d : List ℕ = imageData (chunk p (t .bitmap)) in
     let e : length d + 14 ≡ 2062 = omega (arith, length-imageData (chunk p (t .bitmap)) (chunk-length p (t .bitmap))) in
     subst (λ (n : ℕ). drop n (d ++ (replicate 14 255 ++ imageTail k (t .version))) ≡ imageTail k (t .version)) e
     (drop-append-add d (replicate 14 255 ++ imageTail k (t .version)) 14)
 
-image-data : (k : Kind) (t : Table) (p : ℕ) → take 2048 (image k t p) ≡ imageData (chunk p (t .bitmap))
-unfolding image pageImage
+image-data : (k : Kind) (t : Table) (p : ℕ) → take 2048 (pageImage k t p) ≡ imageData (chunk p (t .bitmap))
+unfolding pageImage partImage
 image-data k t p =
     take-at (imageData (chunk p (t .bitmap))) (replicate 14 255 ++ imageTail k (t .version)) 2048
     (length-imageData (chunk p (t .bitmap)) (chunk-length p (t .bitmap)))
@@ -111,7 +111,7 @@ signed-fit p s l e = go (eqb p 0) (eqb s 0)
 module _ {chip : LargeChip} where
   -- page p of a copy of t, of kind k, stands complete in block b
   abbrev pub Stands : Region chip → ℕ → ℕ → Kind → Table → Type 0
-  Stands r b p k t = Complete r b p (image k t p)
+  Stands r b p k t = Complete r b p (pageImage k t p)
 
   pub kept-seen : (r s : Region chip) (b p : ℕ) → Kept r s b p → view s b p ≡ view r b p
   unfolding seen

@@ -19,7 +19,7 @@ pub mod PowerCuts
 -- a plan carried out uncut
 pub mod CarriedOut
 -- that nothing is left out of the histories, and two of them by number
-pub mod Small
+pub mod AllBytes
 pub mod Putting
 pub mod Possible
 pub mod Example

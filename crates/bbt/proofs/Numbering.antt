@@ -10,7 +10,7 @@ use Rattle.bbt.specs.declared.Step.{Step as ToldStep}
 use Rattle.bbt.specs.Histories.{Snapshot, snapshot, answer, Hand, empty, holding, World, world, Last, Event, plan-refused, update-planned, recovery-planned, step-done, step-cut, cut-between, no-step-left, no-plan, History, start, next}
 use Rattle.bbt.specs.Images.{imageAt, planImage}
 use Rattle.bbt.specs.Plans.{Step, erase, write, Plan, stepsOf, plan, Call}
-use Rattle.bbt.specs.PowerCuts.{Pictures, Numbered, Start, settled-at}
+use Rattle.bbt.specs.PowerCuts.{ImageOf, Numbered, Start, settled-at}
 use Rattle.bbt.specs.Regions.{Region}
 use Rattle.bbt.specs.Told.{toldStep, nthStep}
 use Rattle.bbt.proofs.LeftPages.{Judged}
@@ -38,12 +38,12 @@ from-told f [] (suc i) h = absurd (no-confusion (cc))
 from-told f (x ∷ xs) zero {e} {es} h = let q : x ≡ e = cc in ap f q
 from-told f (x ∷ xs) (suc i) h = from-told f xs i h
 
-first-pictured : (x : Step) (xs : List Step) → Pictures x (imageAt (x ∷ xs) 0)
+first-pictured : (x : Step) (xs : List Step) → ImageOf x (imageAt (x ∷ xs) 0)
 unfolding imageAt
 first-pictured (erase b) xs = refl
 first-pictured (write b p k t) xs = refl
 
-from-pictured : (l : List Step) (i : ℕ) (e : Step) {es : List Step} → stepsFrom l i ≡ e ∷ es → Pictures e (imageAt l i)
+from-pictured : (l : List Step) (i : ℕ) (e : Step) {es : List Step} → stepsFrom l i ≡ e ∷ es → ImageOf e (imageAt l i)
 unfolding stepsFrom imageAt
 from-pictured [] zero e h = absurd (no-confusion (cc))
 from-pictured [] (suc i) e h = absurd (no-confusion (cc))

@@ -14,9 +14,9 @@ use Rattle.chip.specs.declared.LargeChip.{LargeChip}
 use Rattle.bbt.specs.declared.Kind.{Kind}
 use Rattle.bbt.specs.Copies.{Table, readsBad}
 use Rattle.bbt.specs.Histories.{OthersKept, Done, Cut}
-use Rattle.bbt.specs.Images.{Imaged, page-image, image}
+use Rattle.bbt.specs.Images.{Imaged, page-image, pageImage}
 use Rattle.bbt.specs.Plans.{Step, erase, write, writes, copySteps}
-use Rattle.bbt.specs.PowerCuts.{Pictures}
+use Rattle.bbt.specs.PowerCuts.{ImageOf}
 use Rattle.bbt.specs.Regions.{Region, view, Blank, Unreadable, Kept}
 use Rattle.bbt.proofs.Blocks.{Foreign, not-good}
 use Rattle.bbt.proofs.Forms.{Sole, Clear, Room, Lacks, Fill, Whole, Frame, sole-kept, missing-kept, sole-new, missing-clear, whole-copy}
@@ -35,14 +35,14 @@ module _ {chip : LargeChip} where
   Broke (write b p k t) r s = Blank s b p ⊎ (Stands s b p k t ⊎ Unreadable s b p)
 
   -- the page image that was asked for is the step's
-  pub did : (s : Region chip) (x : Imaged) (e : Step) → Pictures e x → Done x e s → Did e s
+  pub did : (s : Region chip) (x : Imaged) (e : Step) → ImageOf e x → Done x e s → Did e s
   did s x (erase b) h d = d
   did s x (write b p k t) h d =
-      let q : page-image (d .page) ≡ page-image (image k t p) = sym (d .given) ∙ h in
-      let z : d .page ≡ image k t p = cc in
+      let q : page-image (d .page) ≡ page-image (pageImage k t p) = sym (d .given) ∙ h in
+      let z : d .page ≡ pageImage k t p = cc in
       rw z at (d .complete)
 
-  pub broke : (r s : Region chip) (x : Imaged) (e : Step) → Pictures e x → Cut x e r s → Broke e r s
+  pub broke : (r s : Region chip) (x : Imaged) (e : Step) → ImageOf e x → Cut x e r s → Broke e r s
   broke r s x (erase b) h d = d
   broke r s x (write b p k t) h (inl d) = inl d
   broke r s x (write b p k t) h (inr (inl d)) = inr (inl (did s x (write b p k t) h d))

@@ -24,8 +24,8 @@ use Rattle.bbt.specs.Histories.{Snapshot, snapshot, answer, asked}
 use Rattle.bbt.specs.Images.{planImage}
 use Rattle.bbt.specs.Lent.{regionLent, statusesRight, callLent, lentPlan, planned, imaged}
 use Rattle.bbt.specs.Pairs.{same, signedOf, difference, Case, no-pair, alone, settled, merging, differing, bothCase, compared, caseOf, copies, pairCase}
-use Rattle.bbt.specs.Plans.{Reading, refused, holds, readCase, reading, Plan, idle, single, double, refuse, plan, nextVersion, updated, updateFrom, update, member, isFree, target, otherKind, recoverTo, anded, recoverNewer, recoverCase, recovery, Call, for-update, for-recovery, firstPlan}
-use Rattle.bbt.specs.PowerCuts.{Keeps}
+use Rattle.bbt.specs.Plans.{Reading, refused, holds, readCase, reading, Plan, idle, single, double, refuse, plan, nextVersion, updated, updateFrom, update, member, isFree, target, otherKind, recoverTo, anded, recoverNewer, recoverCase, recovery, Call, for-update, for-recovery, planByRules}
+use Rattle.bbt.specs.PowerCuts.{NotGoodKept}
 use Rattle.bbt.specs.Regions.{Region, view}
 use Rattle.bbt.proofs.Forms.{Sole, Missing, Clear, Room, Lacks, Sound, twins, ahead, one-left, sole-clear, sole-in, sole-fit, sole-length, sole-apart, missing-clear}
 use Rattle.bbt.proofs.LeftPages.{Judged, Twin, primary-kind, mirror-kind, version-byte}
@@ -164,7 +164,7 @@ pub record News (chip : LargeChip) (o n : Table) : Type 0 where
   pub newer : n .version ≡ nextVersion (o .version)
   pub old-byte : o .version < 256
   pub full : length (n .bitmap) ≡ bitmapBytes chip
-  pub keeps : Keeps chip o n
+  pub not-good-kept : NotGoodKept chip o n
 
 -- an update of a settled pair: no news, an empty plan; news, both copies of the new table
 pub data Update (chip : LargeChip) (o n : Table) (p m : ℕ) : Plan → Type 0 where
@@ -175,7 +175,7 @@ module _ {chip : LargeChip} where
   -- an answer that is a plan is the rules', of a call that lends what it should
   pub record Asked (r : Region chip) (call : Call) (q : Plan) : Type 0 where
     pub lent : callLent chip call ≡ true
-    pub first : firstPlan chip (view r) call ≡ plan q
+    pub first : planByRules chip (view r) call ≡ plan q
 
   -- what a plan's steps take is there
   pub data Ready (r : Region chip) : Plan → Type 0 where
@@ -196,11 +196,11 @@ module _ {chip : LargeChip} (ok : Judged chip) where
   unfolding statusesRight
   statuses-right r = all-intro (length (r .status)) (λ i. ltb (getD (r .status) i 0) 2) (λ i l. lt-ltb (getD (r .status) i 0) 2 (r .status-bits i))
 
-  pub plan-is : (a : Snapshot chip) (call : Call) → answer call a ≡ cond (callLent chip call) (firstPlan chip (view (a .from)) call) (refuse Length)
+  pub plan-is : (a : Snapshot chip) (call : Call) → answer call a ≡ cond (callLent chip call) (planByRules chip (view (a .from)) call) (refuse Length)
   unfolding planned lentPlan
   plan-is a call = rw (ok .is-chip, lengths-right (a .from), statuses-right (a .from))
 
-  pub plan-first : (r : Region chip) (call : Call) → callLent chip call ≡ true → answer call (snapshot r) ≡ firstPlan chip (view r) call
+  pub plan-first : (r : Region chip) (call : Call) → callLent chip call ≡ true → answer call (snapshot r) ≡ planByRules chip (view r) call
   plan-first r call e = plan-is (snapshot r) call ∙ rw e
 
   -- a page image is that of the plan
@@ -273,7 +273,7 @@ module _ {chip : LargeChip} (ok : Judged chip) where
   -- ---- an update
   pub updates : (r : Region chip) (p m : ℕ) (o : Table) (w : List ℕ) (q : Plan) → Sole r Primary p o → Sole r Mirror m o → Asked r (for-update w) q
       → Update chip o (updated o w) p m q
-  unfolding firstPlan update updateFrom updated
+  unfolding planByRules update updateFrom updated
   updates r p m o w q x y h = go (same (updatedBytes (o .bitmap) w) (o .bitmap)) refl
     where
       n : Table
@@ -299,13 +299,13 @@ module _ {chip : LargeChip} (ok : Judged chip) where
             newer = refl;
             old-byte = sole-version x;
             full = length-updated (o .bitmap) w (lo ∙ sym lw) ∙ lo;
-            keeps = update-keeps chip o n w (ok .fours) lo lw refl;
+            not-good-kept = update-keeps chip o n w (ok .fours) lo lw refl;
           } in
           subst (λ (z : Plan). Update chip o (updated o w) p m z) i
           (subst (λ (t : Table). Update chip o t p m (double p m n)) k (news z))
 
   pub update-reads : (r : Region chip) (w : List ℕ) (q : Plan) → Asked r (for-update w) q → (p : ℕ) × (m : ℕ) × (o : Table) × (reading chip (view r) ≡ holds p m o)
-  unfolding firstPlan update updateFrom
+  unfolding planByRules update updateFrom
   update-reads r w q h = go (reading chip (view r)) refl (h .first)
     where
       go : (x : Reading) → reading chip (view r) ≡ x → updateFrom w x ≡ plan q → (p : ℕ) × (m : ℕ) × (o : Table) × (reading chip (view r) ≡ holds p m o)
@@ -339,7 +339,7 @@ module _ {chip : LargeChip} (ok : Judged chip) where
 
   -- ---- every plan that the library makes is ready
   pub plan-ready : (r : Region chip) (call : Call) (q : Plan) → answer call (snapshot r) ≡ plan q → Ready r q
-  unfolding firstPlan recovery
+  unfolding planByRules recovery
   plan-ready r for-recovery q e = recovery-ready r (pairCase chip (view r)) q (case-says r) (plan-asked r for-recovery q e .first)
   plan-ready r (for-update w) q e =
       let h = plan-asked r (for-update w) q e in

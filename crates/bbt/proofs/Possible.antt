@@ -1,5 +1,5 @@
--- Nothing is left out of the histories: each page can be given any fate that a step allows it (`Putting`), its page image is of bytes
--- (`Small`), and whether the new primary is complete can be decided.
+-- Nothing is left out of the histories: each page can be given any left that a step allows it (`Putting`), its page image is of bytes
+-- (`AllBytes`), and whether the new primary is complete can be decided.
 -- Assumes nothing.
 use mathlib.Core.Bool.{Bool, true, false, true≢false}
 use mathlib.Core.List.{List, [], _∷_, _++_}
@@ -14,12 +14,12 @@ use lib.Seq.{take-at, drop-append-add}
 use Rattle.chip.specs.Large.{pagesOf}
 use Rattle.chip.specs.declared.LargeChip.{LargeChip}
 use Rattle.bbt.specs.declared.Kind.the-variants.{Primary}
-use Rattle.bbt.specs.Histories.{Written, Done, Cut, OthersKept, Last, one-table, pending, closed, Closes, as-one, as-closed, was-complete, was-not, AfterStep, Snapshot, asked, step-done, step-cut, begun, Hand, snapshot, answer, holding, empty, world, Event, update-planned, recovery-planned, cut-between}
-use Rattle.bbt.specs.Images.{Imaged, page-image, image}
+use Rattle.bbt.specs.Histories.{Written, Done, Cut, OthersKept, Last, one-table, pending, closed, Closes, as-one, as-closed, was-complete, was-not, AfterStep, Snapshot, asked, step-done, step-cut, asPlanned, Hand, snapshot, answer, holding, empty, world, Event, update-planned, recovery-planned, cut-between}
+use Rattle.bbt.specs.Images.{Imaged, page-image, pageImage}
 use Rattle.bbt.specs.Pairs.{same}
 use Rattle.bbt.specs.Plans.{Step, erase, write, Call, for-update, Plan, stepsOf, plan, updated, for-recovery}
-use Rattle.bbt.specs.Possible.{Bytes, Fate, kept, blanked, completed, spoilt, CutAllows, DoneAllows, Met, AllMet, CanHappen, NothingLeftOut}
-use Rattle.bbt.specs.PowerCuts.{Pictures, Harmless}
+use Rattle.bbt.specs.Possible.{Bytes, Left, as-it-was, left-blank, left-complete, left-unreadable, CutAllows, DoneAllows, IsLeft, AreLeft, CanHappen, NothingLeftOut}
+use Rattle.bbt.specs.PowerCuts.{ImageOf, Harmless}
 use Rattle.bbt.specs.Regions.{Region, statusAt, bytesAt, Blank, Complete, Unreadable, Kept}
 use Rattle.bbt.proofs.LeftPages.{Judged, judge}
 use Rattle.bbt.proofs.Numbering.{started, tracked}
@@ -28,7 +28,7 @@ use Rattle.bbt.proofs.Planning.{plan-asked, update-reads}
 use Rattle.bbt.proofs.PowerCuts.{demand3}
 use Rattle.bbt.proofs.Putting.{put-page}
 use Rattle.bbt.proofs.Searches.{below-suc, all-or-some, same-refl, same-eq}
-use Rattle.bbt.proofs.Small.{small-append, small-replicate, small-take, small-drop, SmallStep, small-next, image-bytes}
+use Rattle.bbt.proofs.AllBytes.{bytes-append, bytes-replicate, bytes-take, bytes-drop, StepOfBytes, bytes-next, image-bytes}
 
 dec-list : (l m : List ℕ) → Dec (l ≡ m)
 dec-list l m = go (same l m) refl
@@ -56,8 +56,8 @@ module _ (l oob : List ℕ) (page : Bytes 2112 l) (free : Bytes 14 oob) where
       length-drop 2062 l,
       page .as-many,
     );
-    small = small-append (take 2048 l) (oob ++ drop 2062 l) (small-take 2048 l (page .small))
-        (small-append oob (drop 2062 l) (free .small) (small-drop 2062 l (page .small)));
+    below-256 = bytes-append (take 2048 l) (oob ++ drop 2062 l) (bytes-take 2048 l (page .below-256))
+        (bytes-append oob (drop 2062 l) (free .below-256) (bytes-drop 2062 l (page .below-256)));
   }
 
   filled-data : take 2048 filled ≡ take 2048 l
@@ -75,28 +75,28 @@ module _ (l oob : List ℕ) (page : Bytes 2112 l) (free : Bytes 14 oob) where
   filled-tail =
       filled-from 14 ∙ subst (λ (m : ℕ). drop (m + 0) (oob ++ drop 2062 l) ≡ drop 2062 l) (free .as-many) (drop-append-add oob (drop 2062 l) 0)
 
--- ---- a page given a fate
+-- ---- a page given a left
 -- what has to be known for it
-abbrev Can : Imaged → Fate → Type 0
-Can x kept = Unit {0}
-Can x blanked = Unit {0}
-Can x (completed oob) = Bytes 14 oob × (l : List ℕ) × Bytes 2112 l × (x ≡ page-image l)
-Can x (spoilt l) = Bytes 2112 l
+abbrev Can : Imaged → Left → Type 0
+Can x as-it-was = Unit {0}
+Can x left-blank = Unit {0}
+Can x (left-complete oob) = Bytes 14 oob × (l : List ℕ) × Bytes 2112 l × (x ≡ page-image l)
+Can x (left-unreadable l) = Bytes 2112 l
 
 -- what a step allows can be known of
-done-can : (x : Imaged) (e : Step) (f : Fate) → Pictures e x → SmallStep e → DoneAllows e f → Can x f
+done-can : (x : Imaged) (e : Step) (f : Left) → ImageOf e x → StepOfBytes e → DoneAllows e f → Can x f
 done-can x (erase b) f pic sm e = rw e tt
-done-can x (write b p k t) f pic sm (oob, free, e) = rw e (free, image k t p, image-bytes k t p sm, pic)
+done-can x (write b p k t) f pic sm (oob, free, e) = rw e (free, pageImage k t p, image-bytes k t p sm, pic)
 
-cut-can : (x : Imaged) (e : Step) (f : Fate) → Pictures e x → SmallStep e → CutAllows e f → Can x f
-cut-can x (erase b) kept pic sm h = tt
-cut-can x (erase b) blanked pic sm h = tt
-cut-can x (erase b) (completed oob) pic sm h = absurd h
-cut-can x (erase b) (spoilt l) pic sm h = h
-cut-can x (write b p k t) kept pic sm h = absurd h
-cut-can x (write b p k t) blanked pic sm h = tt
-cut-can x (write b p k t) (completed oob) pic sm h = (h, image k t p, image-bytes k t p sm, pic)
-cut-can x (write b p k t) (spoilt l) pic sm h = h
+cut-can : (x : Imaged) (e : Step) (f : Left) → ImageOf e x → StepOfBytes e → CutAllows e f → Can x f
+cut-can x (erase b) as-it-was pic sm h = tt
+cut-can x (erase b) left-blank pic sm h = tt
+cut-can x (erase b) (left-complete oob) pic sm h = absurd h
+cut-can x (erase b) (left-unreadable l) pic sm h = h
+cut-can x (write b p k t) as-it-was pic sm h = absurd h
+cut-can x (write b p k t) left-blank pic sm h = tt
+cut-can x (write b p k t) (left-complete oob) pic sm h = (h, pageImage k t p, image-bytes k t p sm, pic)
+cut-can x (write b p k t) (left-unreadable l) pic sm h = h
 
 module _ {chip : LargeChip} where
   kept-refl : (r : Region chip) (b p : ℕ) → Kept r r b p
@@ -106,17 +106,17 @@ module _ {chip : LargeChip} where
   kept-trans x y = record { same-status = y .same-status ∙ x .same-status; same-bytes = y .same-bytes ∙ x .same-bytes }
 
   -- one page, all others kept
-  record Given (x : Imaged) (f : Fate) (r : Region chip) (b p : ℕ) : Type 0 where
+  record Given (x : Imaged) (f : Left) (r : Region chip) (b p : ℕ) : Type 0 where
     s : Region chip
-    met : Met x f r s b p
+    met : IsLeft x f r s b p
     others : (c q : ℕ) → c < chip .region → q < pagesOf chip → ¬ ((c ≡ b) × (q ≡ p)) → Kept r s c q
 
-  give : (x : Imaged) (f : Fate) (r : Region chip) (b p : ℕ) → b < chip .region → p < pagesOf chip → Can x f → Given x f r b p
-  give x kept r b p hb hp h = record { s = r; met = kept-refl r b p; others = λ c q hc hq n. kept-refl r c q }
-  give x blanked r b p hb hp h =
-      let w = put-page r b p (replicate 2112 255) 0 hb hp (record { as-many = length-replicate {A = ℕ} 2112 255; small = small-replicate 2112 }) (lit< tt) in
+  give : (x : Imaged) (f : Left) (r : Region chip) (b p : ℕ) → b < chip .region → p < pagesOf chip → Can x f → Given x f r b p
+  give x as-it-was r b p hb hp h = record { s = r; met = kept-refl r b p; others = λ c q hc hq n. kept-refl r c q }
+  give x left-blank r b p hb hp h =
+      let w = put-page r b p (replicate 2112 255) 0 hb hp (record { as-many = length-replicate {A = ℕ} 2112 255; below-256 = bytes-replicate 2112 }) (lit< tt) in
       record { s = w .s; met = record { well = w .here-status; all-ff = w .here-bytes }; others = w .others }
-  give x (completed oob) r b p hb hp (free, l, page, e) =
+  give x (left-complete oob) r b p hb hp (free, l, page, e) =
       let w = put-page r b p (take 2048 l ++ (oob ++ drop 2062 l)) 0 hb hp (filled-bytes l oob page free) (lit< tt) in
       record {
         s = w .s;
@@ -134,42 +134,42 @@ module _ {chip : LargeChip} where
         );
         others = w .others;
       }
-  give x (spoilt l) r b p hb hp h =
+  give x (left-unreadable l) r b p hb hp h =
       let w = put-page r b p l 1 hb hp h (lit< tt) in
       record { s = w .s; met = (record { fails = w .here-status }, w .here-bytes); others = w .others }
 
   -- ---- the first n pages of a block
-  met-kept : (x : Imaged) (f : Fate) (r : Region chip) {s u : Region chip} {b p : ℕ} → Kept s u b p → Met x f r s b p → Met x f r u b p
-  met-kept x kept r k h = kept-trans h k
-  met-kept x blanked r k h = blank-kept k h
-  met-kept x (completed oob) r k (w, e) =
+  met-kept : (x : Imaged) (f : Left) (r : Region chip) {s u : Region chip} {b p : ℕ} → Kept s u b p → IsLeft x f r s b p → IsLeft x f r u b p
+  met-kept x as-it-was r k h = kept-trans h k
+  met-kept x left-blank r k h = blank-kept k h
+  met-kept x (left-complete oob) r k (w, e) =
       (record { page = w .page; given = w .given; complete = complete-kept k (w .complete) }, ap (λ (m : List ℕ). take 14 (drop 2048 m)) (k .same-bytes) ∙ e)
-  met-kept x (spoilt l) r k (w, e) = (record { fails = k .same-status ∙ w .fails }, k .same-bytes ∙ e)
+  met-kept x (left-unreadable l) r k (w, e) = (record { fails = k .same-status ∙ w .fails }, k .same-bytes ∙ e)
 
-  met-since : (x : Imaged) (f : Fate) {r s : Region chip} (u : Region chip) {b p : ℕ} → Kept r s b p → Met x f s u b p → Met x f r u b p
-  met-since x kept u k h = kept-trans k h
-  met-since x blanked u k h = h
-  met-since x (completed oob) u k h = h
-  met-since x (spoilt l) u k h = h
+  met-since : (x : Imaged) (f : Left) {r s : Region chip} (u : Region chip) {b p : ℕ} → Kept r s b p → IsLeft x f s u b p → IsLeft x f r u b p
+  met-since x as-it-was u k h = kept-trans k h
+  met-since x left-blank u k h = h
+  met-since x (left-complete oob) u k h = h
+  met-since x (left-unreadable l) u k h = h
 
-  record GivenUpTo (x : Imaged) (fate : ℕ → Fate) (r : Region chip) (b n : ℕ) : Type 0 where
+  record GivenUpTo (x : Imaged) (left : ℕ → Left) (r : Region chip) (b n : ℕ) : Type 0 where
     s : Region chip
-    met : (p : ℕ) → p < n → Met x (fate p) r s b p
+    met : (p : ℕ) → p < n → IsLeft x (left p) r s b p
     rest : (p : ℕ) → n ≤ p → p < pagesOf chip → Kept r s b p
     others : (c q : ℕ) → c < chip .region → q < pagesOf chip → ¬ (c ≡ b) → Kept r s c q
 
-  give-all : (x : Imaged) (fate : ℕ → Fate) → ((p : ℕ) → Can x (fate p)) → (r : Region chip) (b : ℕ) → b < chip .region → (n : ℕ) → n ≤ pagesOf chip
-      → GivenUpTo x fate r b n
-  give-all x fate can r b hb zero hn =
+  give-all : (x : Imaged) (left : ℕ → Left) → ((p : ℕ) → Can x (left p)) → (r : Region chip) (b : ℕ) → b < chip .region → (n : ℕ) → n ≤ pagesOf chip
+      → GivenUpTo x left r b n
+  give-all x left can r b hb zero hn =
       record { s = r; met = λ p l. absurd (omega arith); rest = λ p l h. kept-refl r b p; others = λ c q hc hq n. kept-refl r c q }
-  give-all x fate can r b hb (suc n) hn =
-      let a = give-all x fate can r b hb n (omega arith) in
-      let w = give x (fate n) (a .s) b n hb (omega arith) (can n) in
+  give-all x left can r b hb (suc n) hn =
+      let a = give-all x left can r b hb n (omega arith) in
+      let w = give x (left n) (a .s) b n hb (omega arith) (can n) in
       record {
         s = w .s;
         met = λ p l. elim (below-suc l) [
-          | inl e ↦ rw e (met-since x (fate n) (w .s) (a .rest n (omega arith) (omega arith)) (w .met))
-          | inr m ↦ met-kept x (fate p) r (w .others b p hb (omega arith) (λ t. omega (arith, t .1))) (a .met p m)
+          | inl e ↦ rw e (met-since x (left n) (w .s) (a .rest n (omega arith) (omega arith)) (w .met))
+          | inr m ↦ met-kept x (left p) r (w .others b p hb (omega arith) (λ t. omega (arith, t .1))) (a .met p m)
         ];
         rest = λ p l h. kept-trans (a .rest p (omega arith) h) (w .others b p hb h (λ t. omega (arith, t .1)));
         others = λ c q hc hq ne. kept-trans (a .others c q hc hq ne) (w .others c q hc hq (λ t. ne (t .0)));
@@ -191,8 +191,8 @@ module _ {chip : LargeChip} where
   can-close r (one-table t) = (one-table t, as-one)
   can-close r (closed o n w) = (closed o n w, as-closed)
   can-close r (pending o n b) =
-      elim (all-or-some (pagesOf chip) (λ p. Complete r b p (image Primary n p)) (λ p. ¬ Complete r b p (image Primary n p))
-      (λ p l. dec-complete r b p (image Primary n p))) [
+      elim (all-or-some (pagesOf chip) (λ p. Complete r b p (pageImage Primary n p)) (λ p. ¬ Complete r b p (pageImage Primary n p))
+      (λ p l. dec-complete r b p (pageImage Primary n p))) [
         | inl h ↦ (closed o n true, was-complete h)
         | inr h ↦ (closed o n false, was-not (λ w. h .2 (w (h .0) (h .1))))
       ]
@@ -202,66 +202,66 @@ module _ {chip : LargeChip} where
   after-step s (e ∷ es) l = (l, refl)
 
   -- ---- the next step
-  -- its pages can meet any fate that can be known of
-  record Stepped (x : Imaged) (fate : ℕ → Fate) (e : Step) (r : Region chip) : Type 0 where
+  -- its pages can meet any left that can be known of
+  record Stepped (x : Imaged) (left : ℕ → Left) (e : Step) (r : Region chip) : Type 0 where
     s : Region chip
-    met : AllMet x fate e r s
+    met : AreLeft x left e r s
     others : OthersKept e r s
 
-  step-given : (x : Imaged) (fate : ℕ → Fate) (e : Step) (r : Region chip) → Harmless r e → chip .region ≤ chip .blocks → ((p : ℕ) → Can x (fate p)) → Stepped x fate e r
-  step-given x fate (erase b) r h w can =
-      let a = give-all x fate can r b (omega (arith, h .0 .1)) (pagesOf chip) (omega arith) in
+  step-given : (x : Imaged) (left : ℕ → Left) (e : Step) (r : Region chip) → Harmless r e → chip .region ≤ chip .blocks → ((p : ℕ) → Can x (left p)) → Stepped x left e r
+  step-given x left (erase b) r h w can =
+      let a = give-all x left can r b (omega (arith, h .0 .1)) (pagesOf chip) (omega arith) in
       record { s = a .s; met = a .met; others = a .others }
-  step-given x fate (write b p k t) r h w can =
-      let a = give x (fate p) r b p (omega (arith, h .0 .1)) (h .1) (can p) in
+  step-given x left (write b p k t) r h w can =
+      let a = give x (left p) r b p (omega (arith, h .0 .1)) (h .1) (can p) in
       record { s = a .s; met = a .met; others = a .others }
 
   -- and is what a step, done or cut, leaves
-  done-met : (x : Imaged) (fate : ℕ → Fate) (e : Step) (r s : Region chip) → ((p : ℕ) → DoneAllows e (fate p)) → AllMet x fate e r s → Done x e s
-  done-met x fate (erase b) r s ok h = λ p l. rw (ok p) at (h p l)
-  done-met x fate (write b p k t) r s ok h = go (fate p) (ok p) h
+  done-met : (x : Imaged) (left : ℕ → Left) (e : Step) (r s : Region chip) → ((p : ℕ) → DoneAllows e (left p)) → AreLeft x left e r s → Done x e s
+  done-met x left (erase b) r s ok h = λ p l. rw (ok p) at (h p l)
+  done-met x left (write b p k t) r s ok h = go (left p) (ok p) h
     where
-      go : (f : Fate) → DoneAllows (write b p k t) f → Met x f r s b p → Written s b p x
-      go f (oob, free, e) h = let z : Met x (completed oob) r s b p = rw e at h in z .0
+      go : (f : Left) → DoneAllows (write b p k t) f → IsLeft x f r s b p → Written s b p x
+      go f (oob, free, e) h = let z : IsLeft x (left-complete oob) r s b p = rw e at h in z .0
 
-  cut-met : (x : Imaged) (fate : ℕ → Fate) (e : Step) (r s : Region chip) → ((p : ℕ) → CutAllows e (fate p)) → AllMet x fate e r s → Cut x e r s
-  cut-met x fate (erase b) r s ok h = λ p l. go p (fate p) (ok p) (h p l)
+  cut-met : (x : Imaged) (left : ℕ → Left) (e : Step) (r s : Region chip) → ((p : ℕ) → CutAllows e (left p)) → AreLeft x left e r s → Cut x e r s
+  cut-met x left (erase b) r s ok h = λ p l. go p (left p) (ok p) (h p l)
     where
-      go : (p : ℕ) (f : Fate) → CutAllows (erase b) f → Met x f r s b p → Kept r s b p ⊎ (Blank s b p ⊎ Unreadable s b p)
-      go p kept ok h = inl h
-      go p blanked ok h = inr (inl h)
-      go p (completed oob) ok h = absurd ok
-      go p (spoilt l) ok h = inr (inr (h .0))
-  cut-met x fate (write b p k t) r s ok h = go (fate p) (ok p) h
+      go : (p : ℕ) (f : Left) → CutAllows (erase b) f → IsLeft x f r s b p → Kept r s b p ⊎ (Blank s b p ⊎ Unreadable s b p)
+      go p as-it-was ok h = inl h
+      go p left-blank ok h = inr (inl h)
+      go p (left-complete oob) ok h = absurd ok
+      go p (left-unreadable l) ok h = inr (inr (h .0))
+  cut-met x left (write b p k t) r s ok h = go (left p) (ok p) h
     where
-      go : (f : Fate) → CutAllows (write b p k t) f → Met x f r s b p → Blank s b p ⊎ (Written s b p x ⊎ Unreadable s b p)
-      go kept ok h = absurd ok
-      go blanked ok h = inl h
-      go (completed oob) ok h = inr (inl (h .0))
-      go (spoilt l) ok h = inr (inr (h .0))
+      go : (f : Left) → CutAllows (write b p k t) f → IsLeft x f r s b p → Blank s b p ⊎ (Written s b p x ⊎ Unreadable s b p)
+      go as-it-was ok h = absurd ok
+      go left-blank ok h = inl h
+      go (left-complete oob) ok h = inr (inl (h .0))
+      go (left-unreadable l) ok h = inr (inr (h .0))
 
   -- ---- plans, and cuts between steps
   can-plan : Judged chip → (r : Region chip) (h : Hand chip) (l : Last) (call : Call) (q : Plan) → answer call (snapshot r) ≡ plan q
       → (l′ : Last) × Event r l h (world r (holding call (snapshot r) 0 (stepsOf (pagesOf chip) q)) l′)
   can-plan ok r h l (for-update w) q e =
       let s = update-reads ok r w q (plan-asked ok r (for-update w) q e) in
-      (begun (s .2) (updated (s .2) w) q, update-planned w (s .0) (s .1) (s .2) q e (s .3))
+      (asPlanned (s .2) (updated (s .2) w) q, update-planned w (s .0) (s .1) (s .2) q e (s .3))
   can-plan ok r h l for-recovery q e = let z = can-close r l in (z .0, recovery-planned q (z .0) e (z .1))
 
   can-cut : (r : Region chip) (h : Hand chip) (l : Last) → (l′ : Last) × Event r l h (world r empty l′)
   can-cut r h l = let z = can-close r l in (z .0, cut-between (z .0) (z .1))
 
   can-happen : Judged chip → (r : Region chip) (l : Last) (c : Call) (a : Snapshot chip) (i : ℕ) (e : Step) (es : List Step) → Harmless r e
-      → Pictures e (asked c a i) → SmallStep e → CanHappen r l c a i e es
+      → ImageOf e (asked c a i) → StepOfBytes e → CanHappen r l c a i e es
   can-happen ok r l c a i e es h pic sm = record {
-    done = λ fate allows.
-        let w = step-given (asked c a i) fate e r h (ok .within) (λ p. done-can (asked c a i) e (fate p) pic sm (allows p)) in
+    done = λ left allows.
+        let w = step-given (asked c a i) left e r h (ok .within) (λ p. done-can (asked c a i) e (left p) pic sm (allows p)) in
         let z = after-step (w .s) es l in
-        (w .s, z .0, w .met, step-done (w .s) (z .0) (w .others) (done-met (asked c a i) fate e r (w .s) allows (w .met)) (z .1));
-    cut = λ fate allows.
-        let w = step-given (asked c a i) fate e r h (ok .within) (λ p. cut-can (asked c a i) e (fate p) pic sm (allows p)) in
+        (w .s, z .0, w .met, step-done (w .s) (z .0) (w .others) (done-met (asked c a i) left e r (w .s) allows (w .met)) (z .1));
+    cut = λ left allows.
+        let w = step-given (asked c a i) left e r h (ok .within) (λ p. cut-can (asked c a i) e (left p) pic sm (allows p)) in
         let z = can-close (w .s) l in
-        (w .s, z .0, w .met, step-cut (w .s) (z .0) (w .others) (cut-met (asked c a i) fate e r (w .s) allows (w .met)) (z .1));
+        (w .s, z .0, w .met, step-cut (w .s) (z .0) (w .others) (cut-met (asked c a i) left e r (w .s) allows (w .met)) (z .1));
   }
 
 pub nothing-left-out : NothingLeftOut
@@ -269,7 +269,7 @@ nothing-left-out n chip e = record {
   steps = λ {w} {r} {l} {c} {a} {i} {e = e′} {es} s h.
       let t = tracked (started s) h in
       let p = demand3 n chip e .promise s h .next-step in
-      can-happen ok r l c a i e′ es (p .0) (p .1 .by-image) (small-next ok e′ t);
+      can-happen ok r l c a i e′ es (p .0) (p .1 .by-image) (bytes-next ok e′ t);
   plans = can-plan ok;
   cuts = can-cut;
   closes = can-close;

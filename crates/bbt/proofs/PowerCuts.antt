@@ -21,9 +21,9 @@ use Rattle.chip.specs.declared.LargeChip.{LargeChip}
 use Rattle.bbt.specs.declared.Kind.{Kind}
 use Rattle.bbt.specs.declared.Kind.the-variants.{Primary, Mirror}
 use Rattle.bbt.specs.Copies.{Table, good}
-use Rattle.bbt.specs.Histories.{OthersKept, Last, one-table, pending, closed, begun, NewPrimary, Closes, as-one, as-closed, was-complete, was-not, AfterStep, Snapshot, snapshot, Hand, empty, holding, World, world, answer, asked, Event, plan-refused, update-planned, recovery-planned, step-done, step-cut, cut-between, no-step-left, no-plan, History, start, next}
-use Rattle.bbt.specs.Plans.{Step, Plan, stepsOf, copySteps, plan, updated, recovery, Call, for-update, for-recovery, firstPlan}
-use Rattle.bbt.specs.PowerCuts.{InRegion, Keeps, Outcome, regionOf, Settled, Start, settled-at, Settles, Harmless, NextStep, Promise, Demand3}
+use Rattle.bbt.specs.Histories.{OthersKept, Last, one-table, pending, closed, asPlanned, NewPrimary, Closes, as-one, as-closed, was-complete, was-not, AfterStep, Snapshot, snapshot, Hand, empty, holding, World, world, answer, asked, Event, plan-refused, update-planned, recovery-planned, step-done, step-cut, cut-between, no-step-left, no-plan, History, start, next}
+use Rattle.bbt.specs.Plans.{Step, Plan, stepsOf, copySteps, plan, updated, recovery, Call, for-update, for-recovery, planByRules}
+use Rattle.bbt.specs.PowerCuts.{InRegion, NotGoodKept, Outcome, regionOf, Settled, Start, settled-at, Settles, Harmless, NextStep, Promise, Demand3}
 use Rattle.bbt.specs.Regions.{Region, view}
 use Rattle.bbt.specs.Told.{chipBlock}
 use Rattle.bbt.proofs.Forms.{Sole, Missing, Sound, twins, ahead, one-left, Frame, sole-clear, sole-in, sole-fit, sole-length, sole-apart, sound-same, whole-copy}
@@ -42,11 +42,11 @@ data Current : Last → Table → Type 0 where
   the-old : {o n : Table} → Current (closed o n false) o
 
 -- entries that are not 11, from table to table
-keeps-refl : (chip : LargeChip) (t : Table) → Keeps chip t t
-keeps-refl chip t b l h = refl
+kept-same : (chip : LargeChip) (t : Table) → NotGoodKept chip t t
+kept-same chip t b l h = refl
 
-keeps-trans : (chip : LargeChip) (t u v : Table) → Keeps chip t u → Keeps chip u v → Keeps chip t v
-keeps-trans chip t u v f g b l h = g b l (λ e. h (sym (f b l h) ∙ e)) ∙ f b l h
+kept-on : (chip : LargeChip) (t u v : Table) → NotGoodKept chip t u → NotGoodKept chip u v → NotGoodKept chip t v
+kept-on chip t u v f g b l h = g b l (λ e. h (sym (f b l h) ∙ e)) ∙ f b l h
 
 module _ {chip : LargeChip} where
   -- no plan at work: none in hand, or an update's with no step left
@@ -143,22 +143,22 @@ module _ {chip : LargeChip} (ok : Judged chip) where
     c : Table
     is : Current l c
     sound : Sound s c
-    keeps : Keeps chip f c
+    not-good-kept : NotGoodKept chip f c
 
   old-rest : {r : Region chip} {o n : Table} {p : ℕ} {l′ : Last} → Sound r o → ¬ NewPrimary r p n → Closes r (pending o n p) l′ → Rest r l′ o
   old-rest a h (was-complete s) = absurd (h s)
-  old-rest {o = o} a h (was-not s) = record { c = o; is = the-old; sound = a; keeps = keeps-refl chip o }
+  old-rest {o = o} a h (was-not s) = record { c = o; is = the-old; sound = a; not-good-kept = kept-same chip o }
 
-  new-rest : {r : Region chip} {o n f : Table} {p : ℕ} {l′ : Last} → Keeps chip f n → Sound r n → NewPrimary r p n → Closes r (pending o n p) l′ → Rest r l′ f
-  new-rest {n = n} k a h (was-complete s) = record { c = n; is = the-new; sound = a; keeps = k }
+  new-rest : {r : Region chip} {o n f : Table} {p : ℕ} {l′ : Last} → NotGoodKept chip f n → Sound r n → NewPrimary r p n → Closes r (pending o n p) l′ → Rest r l′ f
+  new-rest {n = n} k a h (was-complete s) = record { c = n; is = the-new; sound = a; not-good-kept = k }
   new-rest k a h (was-not s) = absurd (s h)
 
   close : {r : Region chip} {h : Hand chip} {l l′ : Last} {f : Table} → Mode r h l f → Closes r l l′ → Rest r l′ f
-  close {f = f} (resting i u s) cl = record { c = f; is = close-current u cl; sound = s; keeps = keeps-refl chip f }
-  close {f = f} (recovered u x y) cl = record { c = f; is = close-current u cl; sound = twins x y; keeps = keeps-refl chip f }
-  close {f = f} (recovering x) cl = record { c = f; is = close-current (x .now) cl; sound = x .sound; keeps = keeps-refl chip f }
+  close {f = f} (resting i u s) cl = record { c = f; is = close-current u cl; sound = s; not-good-kept = kept-same chip f }
+  close {f = f} (recovered u x y) cl = record { c = f; is = close-current u cl; sound = twins x y; not-good-kept = kept-same chip f }
+  close {f = f} (recovering x) cl = record { c = f; is = close-current (x .now) cl; sound = x .sound; not-good-kept = kept-same chip f }
   close (renewing x) cl = old-rest (x .sound) (x .not-yet) cl
-  close {f = f} (copying x) cl = new-rest (keeps-refl chip f) (x .sound) (x .stays) cl
+  close {f = f} (copying x) cl = new-rest (kept-same chip f) (x .sound) (x .stays) cl
 
   mode-sound : {r : Region chip} {h : Hand chip} {l : Last} {f : Table} → Mode r h l f → Sound r f
   mode-sound (resting i u s) = s
@@ -171,7 +171,7 @@ module _ {chip : LargeChip} (ok : Judged chip) where
   record After (r : Region chip) (h : Hand chip) (l : Last) (f : Table) : Type 0 where
     c : Table
     mode : Mode r h l c
-    keeps : Keeps chip f c
+    not-good-kept : NotGoodKept chip f c
 
   recovered-by : {s : Region chip} {a : Snapshot chip} {i : ℕ} {l : Last} {c : Table} {k j : Kind} {b g : ℕ} → Twin k j → Current l c
       → Sole s j g c → Sole s k b c → Mode s (holding for-recovery a i []) l c
@@ -189,17 +189,17 @@ module _ {chip : LargeChip} (ok : Judged chip) where
 
   update-ended : {s : Region chip} {v : List ℕ} {a : Snapshot chip} {i : ℕ} {es : List Step} {l : Last} {f : Table} → es ≡ [] → Rest s l f
       → After s (holding (for-update v) a i es) l f
-  update-ended e y = record { c = y .c; keeps = y .keeps; mode = rw e (resting update-over (y .is) (y .sound)) }
+  update-ended e y = record { c = y .c; not-good-kept = y .not-good-kept; mode = rw e (resting update-over (y .is) (y .sound)) }
 
   copying-done : {r s : Region chip} {v : List ℕ} {a : Snapshot chip} {i : ℕ} {e : Step} {es : List Step} (o : Table) {n : Table} {l′ : Last} {p : ℕ}
       (x : Copying r (e ∷ es) p n) → NewPrimary s p n → Went s Mirror Primary (x .m) p n n [] es → AfterStep s es (pending o n p) l′
       → After s (holding (for-update v) a i es) l′ n
   copying-done o {n} {l′} {p} x st (more w y) en =
       let e = place-ends (pending o n p) l′ w en in
-      record { c = n; keeps = keeps-refl chip n; mode = rw e (copying (record { m = x .m; full = x .full; placing = w; sound = one-left mirror-kind y; stays = st })) }
+      record { c = n; not-good-kept = kept-same chip n; mode = rw e (copying (record { m = x .m; full = x .full; placing = w; sound = one-left mirror-kind y; stays = st })) }
   copying-done {s = s} o {n} {l′} {p} x st (placed e y z h) en =
       let d : Closes s (pending o n p) l′ = rw e at en in
-      update-ended e (new-rest (keeps-refl chip n) (twins y z) st d)
+      update-ended e (new-rest (kept-same chip n) (twins y z) st d)
 
   renewing-done : {r s : Region chip} {v : List ℕ} {a : Snapshot chip} {i : ℕ} {e : Step} {es : List Step} {o n : Table} {l′ : Last} {p : ℕ}
       (x : Renewing r (e ∷ es) p o n) → Went s Primary Mirror p (x .m) n o (copySteps (pagesOf chip) (x .m) Mirror n []) es
@@ -210,14 +210,14 @@ module _ {chip : LargeChip} (ok : Judged chip) where
       let still = missing-not n p (x .new .full) (place-twin ok w .1) (y .lacking) in
       record {
         c = o;
-        keeps = keeps-refl chip o;
+        not-good-kept = kept-same chip o;
         mode = rw e (renewing (record { m = x .m; placing = w; new = x .new; sound = one-left primary-kind y; not-yet = still }));
       }
   renewing-done {s = s} {o = o} {n = n} {l′ = l′} {p = p} x (placed e y z h) en =
       let d : l′ ≡ pending o n p = rw e at en in
       record {
         c = n;
-        keeps = x .new .keeps;
+        not-good-kept = x .new .not-good-kept;
         mode = rw (e, d) (copying (record {
           m = x .m;
           full = x .new .full;
@@ -236,7 +236,7 @@ module _ {chip : LargeChip} (ok : Judged chip) where
   done-mode : {r : Region chip} (s : Region chip) {k : Call} {a : Snapshot chip} {i : ℕ} (e : Step) (es : List Step) (l l′ : Last) {f : Table}
       → Mode r (holding k a i (e ∷ es)) l f → OthersKept e r s → Did e s → AfterStep s es l l′ → After s (holding k a (suc i) es) l′ f
   done-mode {r} s e es l l′ {f} (recovering x) sp d en =
-      record { c = f; keeps = keeps-refl chip f; mode = recovering-done x (place-done ok r s (x .kinds) (x .full) (x .placing) sp d) en }
+      record { c = f; not-good-kept = kept-same chip f; mode = recovering-done x (place-done ok r s (x .kinds) (x .full) (x .placing) sp d) en }
   done-mode {r} s e es l l′ (renewing x) sp d en = renewing-done x (place-done ok r s primary-kind (x .new .full) (x .placing) sp d) en
   done-mode {r} s e es l l′ (copying {o = o} x) sp d en =
       copying-done o x (copy-stays x sp) (place-done ok r s mirror-kind (x .full) (x .placing) sp d) en
@@ -253,7 +253,7 @@ module _ {chip : LargeChip} (ok : Judged chip) where
   left-rest {r} {s} {n = n} w hp a h (unchanged f) cl =
       old-rest (sound-same ok r s f a) (λ z. h (whole-kept n (back f) hp (λ e. omega (arith, hp)) z)) cl
   left-rest {p = p} {n = n} w hp a h (lacks l) cl = old-rest (one-left primary-kind l) (missing-not n p (w .full) hp (l .lacking)) cl
-  left-rest w hp a h (whole x y z) cl = new-rest (w .keeps) (ahead y x (w .newer)) z cl
+  left-rest w hp a h (whole x y z) cl = new-rest (w .not-good-kept) (ahead y x (w .newer)) z cl
 
   cut-mode : {r : Region chip} (s : Region chip) {k : Call} {a : Snapshot chip} {i : ℕ} (e : Step) {es : List Step} {l l′ : Last} {f : Table}
       → Mode r (holding k a i (e ∷ es)) l f → OthersKept e r s → Broke e r s → Closes s l l′ → Rest s l′ f
@@ -261,18 +261,18 @@ module _ {chip : LargeChip} (ok : Judged chip) where
       record {
         c = f;
         is = close-current (x .now) cl;
-        keeps = keeps-refl chip f;
+        not-good-kept = kept-same chip f;
         sound = left-sound (x .kinds) (x .sound) (place-cut ok r s (x .kinds) (x .full) (x .placing) sp d);
       }
   cut-mode {r} s e (renewing x) sp d cl =
       left-rest (x .new) (place-twin ok (x .placing) .1) (x .sound) (x .not-yet) (place-cut ok r s primary-kind (x .new .full) (x .placing) sp d) cl
   cut-mode {r} s e {f = f} (copying x) sp d cl =
-      new-rest (keeps-refl chip f) (left-sound mirror-kind (x .sound) (place-cut ok r s mirror-kind (x .full) (x .placing) sp d)) (copy-stays x sp) cl
+      new-rest (kept-same chip f) (left-sound mirror-kind (x .sound) (place-cut ok r s mirror-kind (x .full) (x .placing) sp d)) (copy-stays x sp) cl
 
   -- ---- a plan, made
   planned-update : {r : Region chip} (v : List ℕ) (p m : ℕ) (o n : Table) (q : Plan) → Sole r Primary p o → Sole r Mirror m o → Update chip o n p m q
-      → Mode r (holding (for-update v) (snapshot r) 0 (stepsOf (pagesOf chip) q)) (begun o n q) o
-  unfolding begun stepsOf copySteps
+      → Mode r (holding (for-update v) (snapshot r) 0 (stepsOf (pagesOf chip) q)) (asPlanned o n q) o
+  unfolding asPlanned stepsOf copySteps
   planned-update v p m o n q x y (no-news e) = resting update-over the-one (twins x y)
   planned-update v p m o n q x y (news w) =
       renewing (record {
@@ -308,22 +308,22 @@ module _ {chip : LargeChip} (ok : Judged chip) where
   -- ---- an event
   record Next (w : World chip) (f : Table) : Type 0 where
     c : Table
-    keeps : Keeps chip f c
+    not-good-kept : NotGoodKept chip f c
     still : Inv w c
 
   recovery-planned-is : (r : Region chip) (q : Plan) → recovery chip (view r) ≡ plan q → answer for-recovery (snapshot r) ≡ plan q
-  unfolding firstPlan
+  unfolding planByRules
   recovery-planned-is r q e = plan-first ok r for-recovery refl ∙ e
 
   event : {r : Region chip} {h : Hand chip} {l : Last} {u : World chip} {f : Table} → InHand h → Mode r h l f → Event r l h u → Next u f
-  event {f = f} t m (plan-refused c n e) = record { c = f; keeps = keeps-refl chip f; still = inv m }
-  event {f = f} t m no-step-left = record { c = f; keeps = keeps-refl chip f; still = inv m }
-  event {f = f} t m no-plan = record { c = f; keeps = keeps-refl chip f; still = inv m }
+  event {f = f} t m (plan-refused c n e) = record { c = f; not-good-kept = kept-same chip f; still = inv m }
+  event {f = f} t m no-step-left = record { c = f; not-good-kept = kept-same chip f; still = inv m }
+  event {f = f} t m no-plan = record { c = f; not-good-kept = kept-same chip f; still = inv m }
   event {r} {f = f} t m (update-planned wanted p k o q a e) =
       let h = reading-settled r p k o e in
       let w = updates ok r p k o wanted q (h .0) (h .1) (plan-asked ok r (for-update wanted) q a) in
       let z : o ≡ f = sound-settled ok (mode-sound m) (h .0) (h .1) in
-      record { c = o; keeps = rw z (keeps-refl chip f); still = inv (planned-update wanted p k o (updated o wanted) q (h .0) (h .1) w) }
+      record { c = o; not-good-kept = rw z (kept-same chip f); still = inv (planned-update wanted p k o (updated o wanted) q (h .0) (h .1) w) }
   event {r} t m (recovery-planned q l′ a cl) =
       let z = close m cl in
       let w = recovers ok (z .sound) in
@@ -331,18 +331,18 @@ module _ {chip : LargeChip} (ok : Judged chip) where
       let i : w .0 ≡ q = cc in
       record {
         c = z .c;
-        keeps = z .keeps;
+        not-good-kept = z .not-good-kept;
         still = inv (planned-recovery q (z .is) (z .sound) (plan-ready ok r for-recovery q a) (subst (λ (x : Plan). Of (z .c) x) i (w .2)));
       }
   event {l = l} t m (step-done {c} {a} {i} {e} {es} s l′ sp d en) =
       let x = track-numbered ok t in
       let z = done-mode s e es l l′ m sp (did s (asked c a i) e (x .by-image) d) en in
-      record { c = z .c; keeps = z .keeps; still = inv (z .mode) }
+      record { c = z .c; not-good-kept = z .not-good-kept; still = inv (z .mode) }
   event {r} t m (step-cut {c} {a} {i} {e} {es} s l′ sp d cl) =
       let x = track-numbered ok t in
       let z = cut-mode s e m sp (broke r s (asked c a i) e (x .by-image) d) cl in
-      record { c = z .c; keeps = z .keeps; still = inv (resting no-hand (z .is) (z .sound)) }
-  event t m (cut-between l′ cl) = let z = close m cl in record { c = z .c; keeps = z .keeps; still = inv (resting no-hand (z .is) (z .sound)) }
+      record { c = z .c; not-good-kept = z .not-good-kept; still = inv (resting no-hand (z .is) (z .sound)) }
+  event t m (cut-between l′ cl) = let z = close m cl in record { c = z .c; not-good-kept = z .not-good-kept; still = inv (resting no-hand (z .is) (z .sound)) }
 
   event-inv : {r : Region chip} {h : Hand chip} {l : Last} {u : World chip} {f : Table} → InHand h → Inv (world r h l) f → Event r l h u → Next u f
   event-inv t (inv m) e = event t m e
@@ -354,11 +354,11 @@ module _ {chip : LargeChip} (ok : Judged chip) where
       (t, inv (resting no-hand the-one (twins (h .0) (h .1))))
 
   history : {w u : World chip} {f : Table} → HandOf w → Inv w f → History w u → Next u f
-  history {f = f} t i start = record { c = f; keeps = keeps-refl chip f; still = i }
+  history {f = f} t i start = record { c = f; not-good-kept = kept-same chip f; still = i }
   history {f = f} t i (next h e) =
       let a = history t i h in
       let b = event-inv (tracked t h) (a .still) e in
-      record { c = b .c; keeps = keeps-trans chip f (a .c) (b .c) (a .keeps) (b .keeps); still = b .still }
+      record { c = b .c; not-good-kept = kept-on chip f (a .c) (b .c) (a .not-good-kept) (b .not-good-kept); still = b .still }
 
   -- ---- the promise
   outcome : {l : Last} {c : Table} → Current l c → Outcome l c
@@ -415,12 +415,12 @@ module _ {chip : LargeChip} (ok : Judged chip) where
 pub demand3 : Demand3
 demand3 n chip e = record {
   promise = λ s h. promise ok (tracked (started s) h) (history ok (started s) (begin ok s .1) h .still);
-  keeps = λ s h k t t′ a b.
+  not-good-kept = λ s h k t t′ a b.
       let x = history ok (started s) (begin ok s .1) h in
       let y = history ok (tracked (started s) h) (x .still) k in
       let u : t ≡ x .c = holds-settled ok t (x .still) a in
       let v : t′ ≡ y .c = holds-settled ok t′ (y .still) b in
-      rw (u, v) (y .keeps);
+      rw (u, v) (y .not-good-kept);
 }
   where
     ok : Judged chip

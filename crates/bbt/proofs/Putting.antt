@@ -120,7 +120,7 @@ module _ {chip : LargeChip} where
         status = set (r .status) k v;
         image-length = length-put (r .image) l (k * 2112) fits ∙ r .image-length;
         status-length = length-set (r .status) k v ∙ r .status-length;
-        image-bytes = put-below (r .image) l (k * 2112) fits 256 (r .image-bytes) (bytes .small);
+        image-bytes = put-below (r .image) l (k * 2112) fits 256 (r .image-bytes) (bytes .below-256);
         status-bits = bits;
       }
 

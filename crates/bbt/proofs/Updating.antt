@@ -15,7 +15,7 @@ use Rattle.chip.specs.Large.{bitmapBytes}
 use Rattle.chip.specs.declared.LargeChip.{LargeChip}
 use Rattle.bbt.specs.Copies.{Table}
 use Rattle.bbt.specs.Entries.{updatedEntry, updatedByte, updatedBytes, andBytes}
-use Rattle.bbt.specs.PowerCuts.{Keeps}
+use Rattle.bbt.specs.PowerCuts.{NotGoodKept}
 use Rattle.bbt.proofs.Bitmaps.{updated-zipped, and-zipped}
 
 -- ---- lengths
@@ -26,9 +26,9 @@ pub length-anded : (x y : List ℕ) → length x ≡ length y → length (andByt
 length-anded x y e = ap length (and-zipped x y) ∙ length-zipped bitAnd x y e
 
 -- ---- an entry, a byte, a table
-entry-small : (a b : ℕ) → a < 4 → b < 4 → updatedEntry a b < 4
+entry-below : (a b : ℕ) → a < 4 → b < 4 → updatedEntry a b < 4
 unfolding updatedEntry
-entry-small a b ha hb = go (eqb a 3)
+entry-below a b ha hb = go (eqb a 3)
   where
     go : (x : Bool) → cond x b a < 4
     go true = hb
@@ -39,15 +39,15 @@ unfolding updatedEntry
 entry-kept a b h = rw (ne-eqb a 3 h)
 
 -- a byte is a byte
-pub updated-small : (o w : ℕ) → updatedByte o w < 256
+pub updated-below : (o w : ℕ) → updatedByte o w < 256
 unfolding updatedByte
-updated-small o w =
+updated-below o w =
     omega (
       arith,
-      entry-small (o % 4) (w % 4) (omega arith) (omega arith),
-      entry-small (o / 4 % 4) (w / 4 % 4) (omega arith) (omega arith),
-      entry-small (o / 16 % 4) (w / 16 % 4) (omega arith) (omega arith),
-      entry-small (o / 64 % 4) (w / 64 % 4) (omega arith) (omega arith),
+      entry-below (o % 4) (w % 4) (omega arith) (omega arith),
+      entry-below (o / 4 % 4) (w / 4 % 4) (omega arith) (omega arith),
+      entry-below (o / 16 % 4) (w / 16 % 4) (omega arith) (omega arith),
+      entry-below (o / 64 % 4) (w / 64 % 4) (omega arith) (omega arith),
     )
 
 -- entry j of a byte
@@ -56,16 +56,16 @@ unfolding updatedByte
 byte-kept j o w = at j
   where
     k0 : updatedEntry (o % 4) (w % 4) < 4
-    k0 = entry-small (o % 4) (w % 4) (omega arith) (omega arith)
+    k0 = entry-below (o % 4) (w % 4) (omega arith) (omega arith)
 
     k1 : updatedEntry (o / 4 % 4) (w / 4 % 4) < 4
-    k1 = entry-small (o / 4 % 4) (w / 4 % 4) (omega arith) (omega arith)
+    k1 = entry-below (o / 4 % 4) (w / 4 % 4) (omega arith) (omega arith)
 
     k2 : updatedEntry (o / 16 % 4) (w / 16 % 4) < 4
-    k2 = entry-small (o / 16 % 4) (w / 16 % 4) (omega arith) (omega arith)
+    k2 = entry-below (o / 16 % 4) (w / 16 % 4) (omega arith) (omega arith)
 
     k3 : updatedEntry (o / 64 % 4) (w / 64 % 4) < 4
-    k3 = entry-small (o / 64 % 4) (w / 64 % 4) (omega arith) (omega arith)
+    k3 = entry-below (o / 64 % 4) (w / 64 % 4) (omega arith) (omega arith)
 
     at : (j : ℕ) → j < 4 → o / 4 ^ j % 4 ≢ 3 → updatedByte o w / 4 ^ j % 4 ≡ o / 4 ^ j % 4
     at zero l h = omega (arith, k0, k1, k2, k3, entry-kept (o % 4) (w % 4) (λ e. h (omega arith)))
@@ -75,7 +75,7 @@ byte-kept j o w = at j
     at (suc (suc (suc (suc j)))) l h = absurd (omega arith)
 
 pub update-keeps : (chip : LargeChip) (o n : Table) (w : List ℕ) → chip .blocks % 4 ≡ 0 → length (o .bitmap) ≡ bitmapBytes chip
-    → length w ≡ bitmapBytes chip → n .bitmap ≡ updatedBytes (o .bitmap) w → Keeps chip o n
+    → length w ≡ bitmapBytes chip → n .bitmap ≡ updatedBytes (o .bitmap) w → NotGoodKept chip o n
 update-keeps chip o n w fours lo lw e b hb h =
     let at : getD (updatedBytes (o .bitmap) w) (b / 4) 0 ≡ updatedByte (getD (o .bitmap) (b / 4) 0) (getD w (b / 4) 0) =
     ap (λ (l : List ℕ). getD l (b / 4) 0) (updated-zipped (o .bitmap) w)

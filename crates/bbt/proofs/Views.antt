@@ -15,7 +15,7 @@ use Rattle.bbt.specs.declared.Kind.the-variants.{Primary, Mirror}
 use Rattle.bbt.specs.Copies.{Table, pageVersion, isPage, isMarked, good, readsBad, parts, table, Found, nowhere, only, several}
 use Rattle.bbt.specs.Pages.{Page, View}
 use Rattle.bbt.specs.Pairs.{Case, no-pair, alone, settled, merging, differing, bothCase, compared, caseOf, copies, pairCase}
-use Rattle.bbt.specs.Plans.{readCase, reading, updateFrom, update, isFree, target, otherKind, recoverTo, anded, recoverNewer, recoverCase, recovery, holds, plan, idle, double, Call, for-update, for-recovery, firstPlan}
+use Rattle.bbt.specs.Plans.{readCase, reading, updateFrom, update, isFree, target, otherKind, recoverTo, anded, recoverNewer, recoverCase, recovery, holds, plan, idle, double, Call, for-update, for-recovery, planByRules}
 use Rattle.bbt.proofs.Searches.{all-cong, parts-cong, find-cong, only-find, highest-cong}
 
 -- ---- the blocks that a case names
@@ -135,7 +135,7 @@ module _ (chip : LargeChip) (some-page : 0 < pagesOf chip) (R S : View)
   unfolding reading
   reading-agrees = read-agrees (pairCase chip R) (case-copies chip R) ∙ ap (readCase (pagesOf chip) S) cases-agree
 
-  pub plan-agrees : (call : Call) → firstPlan chip R call ≡ firstPlan chip S call
-  unfolding firstPlan update recovery
+  pub plan-agrees : (call : Call) → planByRules chip R call ≡ planByRules chip S call
+  unfolding planByRules update recovery
   plan-agrees (for-update w) = ap (updateFrom w) reading-agrees
   plan-agrees for-recovery = recover-agrees (pairCase chip R) (case-copies chip R) ∙ ap (recoverCase chip S) cases-agree

@@ -10,7 +10,7 @@ use Rattle.chip.specs.declared.LargeChip.{LargeChip}
 use Rattle.chip.specs.declared.Refusal.{Refusal}
 use Rattle.bbt.specs.declared.Kind.the-variants.{Primary}
 use Rattle.bbt.specs.Copies.{Table}
-use Rattle.bbt.specs.Images.{Imaged, page-image, image}
+use Rattle.bbt.specs.Images.{Imaged, page-image, pageImage}
 use Rattle.bbt.specs.Lent.{planned, imaged}
 use Rattle.bbt.specs.Plans.{Step, erase, write, Plan, idle, single, double, stepsOf, Answer, refuse, plan, reading, holds, updated, Call, for-update, for-recovery}
 use Rattle.bbt.specs.Regions.{Region, view, Blank, Complete, Unreadable, Kept}
@@ -52,15 +52,15 @@ pub data Last : Type 0 where
   closed : Table → Table → Bool → Last
 
 -- as its plan is made; an update's plan is empty or of both copies
-unfoldable pub begun : Table → Table → Plan → Last
-begun o n (idle v) = one-table o
-begun o n (single k b g t) = pending o n b
-begun o n (double p m t) = pending o n p
+unfoldable pub asPlanned : Table → Table → Plan → Last
+asPlanned o n (idle v) = one-table o
+asPlanned o n (single k b g t) = pending o n b
+asPlanned o n (double p m t) = pending o n p
 
 module _ {chip : LargeChip} where
   -- the new primary, in block b, is complete: all its pages are, as asked
   abbrev pub NewPrimary : Region chip → ℕ → Table → Type 0
-  NewPrimary r b n = (p : ℕ) → p < pagesOf chip → Complete r b p (image Primary n p)
+  NewPrimary r b n = (p : ℕ) → p < pagesOf chip → Complete r b p (pageImage Primary n p)
 
   -- as its plan goes out of hand, at region r
   pub data Closes (r : Region chip) : Last → Last → Type 0 where
@@ -106,7 +106,7 @@ module _ {chip : LargeChip} where
     -- a plan replaces the one in hand
     update-planned : {h : Hand chip} (wanted : List ℕ) (p m : ℕ) (o : Table) (q : Plan)
         → answer (for-update wanted) (snapshot r) ≡ plan q → reading chip (view r) ≡ holds p m o
-        → Event r l h (world r (holding (for-update wanted) (snapshot r) 0 (stepsOf (pagesOf chip) q)) (begun o (updated o wanted) q))
+        → Event r l h (world r (holding (for-update wanted) (snapshot r) 0 (stepsOf (pagesOf chip) q)) (asPlanned o (updated o wanted) q))
     recovery-planned : {h : Hand chip} (q : Plan) (l′ : Last) → answer for-recovery (snapshot r) ≡ plan q → Closes r l l′
         → Event r l h (world r (holding for-recovery (snapshot r) 0 (stepsOf (pagesOf chip) q)) l′)
     -- the next step runs to its end

@@ -25,12 +25,12 @@ unfoldable pub imageTail : Kind → ℕ → List ℕ
 imageTail k v = wordBytes (kindWord k) ++ (v ∷ replicate 45 255)
 
 -- a page of a copy: its part of the table, its kind and its version; OOB 0 to 13 are FF
-unfoldable pub pageImage : Kind → ℕ → List ℕ → List ℕ
-pageImage k v part = imageData part ++ (replicate 14 255 ++ imageTail k v)
+unfoldable pub partImage : Kind → ℕ → List ℕ → List ℕ
+partImage k v part = imageData part ++ (replicate 14 255 ++ imageTail k v)
 
 -- page p of a copy of kind k of a table
-unfoldable pub image : Kind → Table → ℕ → List ℕ
-image k t p = pageImage k (t .version) (chunk p (t .bitmap))
+unfoldable pub pageImage : Kind → Table → ℕ → List ℕ
+pageImage k t p = partImage k (t .version) (chunk p (t .bitmap))
 
 -- the image of a plan's step: a step past the plan's end, or of an erase, is refusal 2
 pub data Imaged : Type 0 where
@@ -40,7 +40,7 @@ pub data Imaged : Type 0 where
 unfoldable pub imageAt : List Step → ℕ → Imaged
 imageAt [] i = no-image Range
 imageAt (erase b ∷ es) zero = no-image Range
-imageAt (write b p k t ∷ es) zero = page-image (image k t p)
+imageAt (write b p k t ∷ es) zero = page-image (pageImage k t p)
 imageAt (e ∷ es) (suc i) = imageAt es i
 
 unfoldable pub planImage : LargeChip → Answer → ℕ → Imaged

@@ -13,7 +13,7 @@ use Rattle.chip.specs.declared.Refusal.the-variants.{Length, Range}
 use Rattle.bbt.specs.Copies.{all}
 use Rattle.bbt.specs.Images.{Imaged, no-image, planImage}
 use Rattle.bbt.specs.Pages.{seen}
-use Rattle.bbt.specs.Plans.{Reading, refused, reading, Answer, refuse, Call, for-update, for-recovery, firstPlan}
+use Rattle.bbt.specs.Plans.{Reading, refused, reading, Answer, refuse, Call, for-update, for-recovery, planByRules}
 
 -- on the chip of N blocks, or N's refusal
 abbrev pub onChip : {A : Type 0} → (Refusal → A) → ChipAnswer → (LargeChip → A) → A
@@ -48,7 +48,7 @@ callLent chip for-recovery = true
 
 unfoldable pub lentPlan : LargeChip → Call → List ℕ → List ℕ → Answer
 lentPlan chip call image status =
-    judged refuse (regionLent chip image status && callLent chip call) (statusesRight status) (firstPlan chip (seen chip image status) call)
+    judged refuse (regionLent chip image status && callLent chip call) (statusesRight status) (planByRules chip (seen chip image status) call)
 
 unfoldable pub planned : ℕ → Call → List ℕ → List ℕ → Answer
 planned n call image status = onChip refuse (chipOf n) (λ chip. lentPlan chip call image status)

@@ -140,6 +140,6 @@ pub data Call : Type 0 where
   for-update : List ℕ → Call
   for-recovery : Call
 
-unfoldable pub firstPlan : LargeChip → View → Call → Answer
-firstPlan chip R (for-update w) = update chip R w
-firstPlan chip R for-recovery = recovery chip R
+unfoldable pub planByRules : LargeChip → View → Call → Answer
+planByRules chip R (for-update w) = update chip R w
+planByRules chip R for-recovery = recovery chip R

@@ -18,50 +18,50 @@ use Rattle.bbt.specs.Regions.{Region, view, bytesAt, Blank, Unreadable, 
 -- any n bytes
 pub record Bytes (n : ℕ) (l : List ℕ) : Type 0 where
   pub as-many : length l ≡ n
-  pub small : (i : ℕ) → getD l i 0 < 256
+  pub below-256 : (i : ℕ) → getD l i 0 < 256
 
 -- what becomes of a page: it is as it was, blank, complete with these bytes in OOB 0-13, or unreadable with these bytes
-pub data Fate : Type 0 where
-  kept : Fate
-  blanked : Fate
-  completed : List ℕ → Fate
-  spoilt : List ℕ → Fate
+pub data Left : Type 0 where
+  as-it-was : Left
+  left-blank : Left
+  left-complete : List ℕ → Left
+  left-unreadable : List ℕ → Left
 
 -- what a cut in a step may make of a page
-abbrev pub CutAllows : Step → Fate → Type 0
-CutAllows (erase b) kept = Unit {0}
-CutAllows (erase b) blanked = Unit {0}
-CutAllows (erase b) (completed x) = ⊥
-CutAllows (erase b) (spoilt l) = Bytes 2112 l
-CutAllows (write b p k t) kept = ⊥
-CutAllows (write b p k t) blanked = Unit {0}
-CutAllows (write b p k t) (completed x) = Bytes 14 x
-CutAllows (write b p k t) (spoilt l) = Bytes 2112 l
+abbrev pub CutAllows : Step → Left → Type 0
+CutAllows (erase b) as-it-was = Unit {0}
+CutAllows (erase b) left-blank = Unit {0}
+CutAllows (erase b) (left-complete x) = ⊥
+CutAllows (erase b) (left-unreadable l) = Bytes 2112 l
+CutAllows (write b p k t) as-it-was = ⊥
+CutAllows (write b p k t) left-blank = Unit {0}
+CutAllows (write b p k t) (left-complete x) = Bytes 14 x
+CutAllows (write b p k t) (left-unreadable l) = Bytes 2112 l
 
 -- what a step, done, makes of its pages
-abbrev pub DoneAllows : Step → Fate → Type 0
-DoneAllows (erase b) f = f ≡ blanked
-DoneAllows (write b p k t) f = (x : List ℕ) × Bytes 14 x × (f ≡ completed x)
+abbrev pub DoneAllows : Step → Left → Type 0
+DoneAllows (erase b) f = f ≡ left-blank
+DoneAllows (write b p k t) f = (x : List ℕ) × Bytes 14 x × (f ≡ left-complete x)
 
 module _ {chip : LargeChip} where
-  -- page p of block b met its fate, from region r to region s
-  abbrev pub Met : Imaged → Fate → Region chip → Region chip → ℕ → ℕ → Type 0
-  Met x kept r s b p = Kept r s b p
-  Met x blanked r s b p = Blank s b p
-  Met x (completed oob) r s b p = Written s b p x × (take 14 (drop 2048 (bytesAt s b p)) ≡ oob)
-  Met x (spoilt l) r s b p = Unreadable s b p × (bytesAt s b p ≡ l)
+  -- page p of block b met its left, from region r to region s
+  abbrev pub IsLeft : Imaged → Left → Region chip → Region chip → ℕ → ℕ → Type 0
+  IsLeft x as-it-was r s b p = Kept r s b p
+  IsLeft x left-blank r s b p = Blank s b p
+  IsLeft x (left-complete oob) r s b p = Written s b p x × (take 14 (drop 2048 (bytesAt s b p)) ≡ oob)
+  IsLeft x (left-unreadable l) r s b p = Unreadable s b p × (bytesAt s b p ≡ l)
 
   -- the pages of the step did
-  abbrev pub AllMet : Imaged → (ℕ → Fate) → Step → Region chip → Region chip → Type 0
-  AllMet x fate (erase b) r s = (p : ℕ) → p < pagesOf chip → Met x (fate p) r s b p
-  AllMet x fate (write b p k t) r s = Met x (fate p) r s b p
+  abbrev pub AreLeft : Imaged → (ℕ → Left) → Step → Region chip → Region chip → Type 0
+  AreLeft x left (erase b) r s = (p : ℕ) → p < pagesOf chip → IsLeft x (left p) r s b p
+  AreLeft x left (write b p k t) r s = IsLeft x (left p) r s b p
 
   -- the next step e, number i of the plan in hand
   pub record CanHappen (r : Region chip) (l : Last) (c : Call) (a : Snapshot chip) (i : ℕ) (e : Step) (es : List Step) : Type 0 where
-    pub done : (fate : ℕ → Fate) → ((p : ℕ) → DoneAllows e (fate p))
-        → (s : Region chip) × (l′ : Last) × AllMet (asked c a i) fate e r s × Event r l (holding c a i (e ∷ es)) (world s (holding c a (suc i) es) l′)
-    pub cut : (fate : ℕ → Fate) → ((p : ℕ) → CutAllows e (fate p))
-        → (s : Region chip) × (l′ : Last) × AllMet (asked c a i) fate e r s × Event r l (holding c a i (e ∷ es)) (world s empty l′)
+    pub done : (left : ℕ → Left) → ((p : ℕ) → DoneAllows e (left p))
+        → (s : Region chip) × (l′ : Last) × AreLeft (asked c a i) left e r s × Event r l (holding c a i (e ∷ es)) (world s (holding c a (suc i) es) l′)
+    pub cut : (left : ℕ → Left) → ((p : ℕ) → CutAllows e (left p))
+        → (s : Region chip) × (l′ : Last) × AreLeft (asked c a i) left e r s × Event r l (holding c a i (e ∷ es)) (world s empty l′)
 
 pub record Possible (chip : LargeChip) : Type 0 where
   pub steps : {w : World chip} {r : Region chip} {l : Last} {c : Call} {a : Snapshot chip} {i : ℕ} {e : Step} {es : List Step} → Start w

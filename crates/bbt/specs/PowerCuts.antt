@@ -12,7 +12,7 @@ use Rattle.chip.specs.declared.Refusal.the-variants.{Range}
 use Rattle.bbt.specs.Copies.{Table, readsBad}
 use Rattle.bbt.specs.Entries.{entryOf}
 use Rattle.bbt.specs.Histories.{Last, one-table, pending, closed, Snapshot, snapshot, answer, asked, empty, holding, World, world, History}
-use Rattle.bbt.specs.Images.{Imaged, no-image, page-image, image}
+use Rattle.bbt.specs.Images.{Imaged, no-image, page-image, pageImage}
 use Rattle.bbt.specs.Pairs.{merging, pairCase}
 use Rattle.bbt.specs.Plans.{Step, erase, write, Plan, plan, Call, for-update, for-recovery, reading, holds}
 use Rattle.bbt.specs.Regions.{Region, view}
@@ -23,8 +23,8 @@ abbrev pub InRegion : LargeChip → ChipBlock → Type 0
 InRegion chip c = (chip .blocks - chip .region ≤ c .0) × (c .0 < chip .blocks)
 
 -- an entry that is not 11 is kept from table t to table u
-abbrev pub Keeps : LargeChip → Table → Table → Type 0
-Keeps chip t u = (b : ℕ) → b < chip .blocks → entryOf (t .bitmap) b ≢ 3 → entryOf (u .bitmap) b ≡ entryOf (t .bitmap) b
+abbrev pub NotGoodKept : LargeChip → Table → Table → Type 0
+NotGoodKept chip t u = (b : ℕ) → b < chip .blocks → entryOf (t .bitmap) b ≢ 3 → entryOf (u .bitmap) b ≡ entryOf (t .bitmap) b
 
 -- the table that a finished recovery leaves: the new exactly when the new primary was complete; where old and new are one table, that one
 abbrev pub Outcome : Last → Table → Type 0
@@ -34,9 +34,9 @@ Outcome (closed o n true) t = t ≡ n
 Outcome (closed o n false) t = t ≡ o
 
 -- a step's page image: none for an erase
-abbrev pub Pictures : Step → Imaged → Type 0
-Pictures (erase b) x = x ≡ no-image Range
-Pictures (write b p k t) x = x ≡ page-image (image k t p)
+abbrev pub ImageOf : Step → Imaged → Type 0
+ImageOf (erase b) x = x ≡ no-image Range
+ImageOf (write b p k t) x = x ≡ page-image (pageImage k t p)
 
 module _ {chip : LargeChip} where
   abbrev pub regionOf : World chip → Region chip
@@ -67,7 +67,7 @@ module _ {chip : LargeChip} where
     pub made : Plan
     pub by-plan : answer call a ≡ plan made
     pub by-number : nthStep (toldSteps (toldPlan chip made)) i ≡ toldStep chip e
-    pub by-image : Pictures e (asked call a i)
+    pub by-image : ImageOf e (asked call a i)
 
   abbrev pub NextStep : World chip → Type 0
   NextStep (world r empty l) = Unit {0}
@@ -88,8 +88,8 @@ module _ {chip : LargeChip} where
 -- after every list of events; and a block that a settled table calls not good keeps that entry in every later settled one
 pub record SafeUnderCuts (chip : LargeChip) : Type 0 where
   pub promise : {w v : World chip} → Start w → History w v → Promise v
-  pub keeps : {w v u : World chip} → Start w → History w v → History v u → (t t′ : Table) → Settled (regionOf v) t
-      → Settled (regionOf u) t′ → Keeps chip t t′
+  pub not-good-kept : {w v u : World chip} → Start w → History w v → History v u → (t t′ : Table) → Settled (regionOf v) t
+      → Settled (regionOf u) t′ → NotGoodKept chip t t′
 
 abbrev pub Demand3 : Type 0
 Demand3 = (n : ℕ) (chip : LargeChip) → chipOf n ≡ Chip chip → SafeUnderCuts chip

@@ -114,7 +114,7 @@ fn copy_step(kind: Kind, block: ChipBlock, k: u64) -> Step
 
 impl Plan {
     // How many steps there are: 0, P + 1 or 2P + 2.
-    pub fn count(self) -> u32
+    pub fn step_count(self) -> u32
         ensures { λ r. ⌜ r ≡ length (toldSteps self) ⌝ }
     {
         let p = self.pages as u32;

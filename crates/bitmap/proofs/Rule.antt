@@ -1,4 +1,4 @@
--- Laws of the update rule: its bits, a byte's four entries at once, and which bitmaps it keeps.
+-- Laws of the update rule: its bits, a byte's four entries at once, and which bitmaps it newEqualsOld.
 -- Assumes nothing.
 use mathlib.Core.Bool.{Bool, false, cond, _&&_}
 use mathlib.Core.List.{List, [], _∷_}
@@ -13,7 +13,7 @@ use Rattle.bits.proofs.Computed.{all, below, left, right}
 use Rattle.bits.proofs.Gathering.{and-false}
 use Rattle.bbt.specs.Entries.{entriesByte, updatedEntry, updatedByte, updatedBytes}
 use Rattle.bbt.specs.Pairs.{same}
-use Rattle.bitmap.specs.Made.{keeps}
+use Rattle.bitmap.specs.Made.{newEqualsOld}
 
 -- the bits of an entry that the rule leaves: none where it is 11
 kept : ℕ → ℕ
@@ -71,9 +71,9 @@ rule-bits o w h =
     (entry-at 4 o w (mask o) (at 16 (left (right-at o 16) _ t₂)))
     (entry-at 6 o w (mask o) (at 64 (right (right-at o 16) _ t₂)))
 
--- a wanted bitmap that is too short keeps nothing
-pub keeps-short : (o w : List ℕ) → length w < length o → keeps o w ≡ false
-unfolding keeps updatedBytes same
-keeps-short [] w h = absurd (omega arith)
-keeps-short (u ∷ o) [] h = refl
-keeps-short (u ∷ o) (v ∷ w) h = rw (keeps-short o w (omega arith)) (and-false (eqb (updatedByte u v) u))
+-- a wanted bitmap that is too short newEqualsOld nothing
+pub equal-short : (o w : List ℕ) → length w < length o → newEqualsOld o w ≡ false
+unfolding newEqualsOld updatedBytes same
+equal-short [] w h = absurd (omega arith)
+equal-short (u ∷ o) [] h = refl
+equal-short (u ∷ o) (v ∷ w) h = rw (equal-short o w (omega arith)) (and-false (eqb (updatedByte u v) u))

@@ -30,8 +30,8 @@ unfoldable pub firstAfter : ℕ → List ℕ → List ℕ → List ℕ
 firstAfter n marks room = firstBy (firstAnswer n marks room) (firstBitmap n marks) room
 
 -- the update rule changes no entry
-unfoldable pub keeps : List ℕ → List ℕ → Bool
-keeps old wanted = same (updatedBytes old wanted) old
+unfoldable pub newEqualsOld : List ℕ → List ℕ → Bool
+newEqualsOld old wanted = same (updatedBytes old wanted) old
 
 -- three lists of one length
 abbrev pub oneLength : List ℕ → List ℕ → List ℕ → Bool

@@ -7,7 +7,7 @@ ghost use lib.ListN.{length};
 ghost use Rattle.bits.specs.Bytes.{build};
 ghost use Rattle.bbt.specs.Entries.{entriesByte, markEntry, firstByte, firstBitmap, updatedByte};
 ghost use Rattle.bbt.specs.Pairs.{same};
-ghost use Rattle.bitmap.specs.Made.{marksLent, firstAnswer, firstBy, firstAfter, keeps, updatedInto, andedInto};
+ghost use Rattle.bitmap.specs.Made.{marksLent, firstAnswer, firstBy, firstAfter, newEqualsOld, updatedInto, andedInto};
 use chip::ChipAnswer;
 use chip::LargeChip;
 use chip::Refusal;
@@ -37,7 +37,7 @@ fn made(chip: LargeChip, marks: &[u8], bitmap: &mut [u8]) -> BitmapAnswer
     if marks.len() != chip.blocks as usize {
         return BitmapAnswer::Refused(Refusal::Length);
     }
-    if bitmap.len() != (chip.blocks / 4) as usize {
+    if bitmap.len() != chip.bitmap_bytes() {
         return BitmapAnswer::Refused(Refusal::Length);
     }
     fill_first(marks, bitmap);
@@ -105,8 +105,8 @@ fn differs(a: &[u8], b: &[u8]) -> u8
 }
 
 // Does the update rule keep an old bitmap as it is? Judged 256 bytes at a time.
-pub fn keeps_old(old: &[u8], wanted: &[u8]) -> bool
-    ensures { λ r. ⌜ r ≡ keeps (now (old .entry)) (now (wanted .entry)) ⌝ }
+pub fn new_equals_old(old: &[u8], wanted: &[u8]) -> bool
+    ensures { λ r. ⌜ r ≡ newEqualsOld (now (old .entry)) (now (wanted .entry)) ⌝ }
 {
     let n = old.len();
     if wanted.len() < n {
@@ -126,7 +126,7 @@ pub fn keeps_old(old: &[u8], wanted: &[u8]) -> bool
 // What the update rule changes, gathered: 0 where it changes nothing.
 fn changes(old: &[u8], wanted: &[u8]) -> u8
     requires { ⌜ length (now old) ≡ length (now wanted) ⌝ }
-    ensures { λ r. ⌜ eqb r 0 ≡ keeps (now (old .entry)) (now (wanted .entry)) ⌝ }
+    ensures { λ r. ⌜ eqb r 0 ≡ newEqualsOld (now (old .entry)) (now (wanted .entry)) ⌝ }
 {
     let mut d: u8 = 0;
     let mut i: usize = 0;

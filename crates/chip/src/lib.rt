@@ -15,6 +15,33 @@ impl SmallChip {
     pub const HALF: usize = 256;
 
     pub const CODE: usize = 3;
+
+    // The code bits of a half, LP0 to LP15 and CP0 to CP5, and their pairs.
+    pub const CODE_BITS: u8 = 22;
+
+    pub const CODE_PAIRS: u8 = 11;
+
+    // What 26 data bits can hold; a path is below.
+    pub const WORDS: u32 = 67108864;
+
+    pub const PATHS: u64 = 67108864;
+
+    // What 18 bits can hold, the magic above them, and the largest count that is written.
+    pub const COUNTS: u32 = 262144;
+
+    pub const MAGIC: u32 = 0x56;
+
+    pub const MAGIC_WITH_NO_COUNT: u32 = SmallChip::MAGIC * SmallChip::COUNTS;
+
+    pub const LAST_COUNT: u64 = 262142;
+
+    // A boot number is below 2^24, its generation at most 3.
+    pub const BOOTS: u32 = 16777216;
+
+    pub const LAST_GENERATION: u8 = 3;
+
+    // The bytes in which a C caller is told what a spare or a page holds.
+    pub const FIELDS: usize = 11;
 }
 
 // The large chip: 2,048 data bytes and 64 OOB bytes a page; its number of blocks, and how many of the last hold the tables.
@@ -36,7 +63,16 @@ impl LargeChip {
 
     pub const PAGE_WITH_OOB: usize = LargeChip::PAGE + LargeChip::OOB;
 
+    // Where a page's signature and its version stand: OOB 14 to 17, and 18.
+    pub const SIGNATURE: usize = LargeChip::PAGE + 14;
+
+    pub const VERSION: usize = LargeChip::PAGE + 18;
+
     pub const REGION: u8 = 4;
+
+    pub const FEWEST_BLOCKS: u64 = 8;
+
+    pub const MOST_BLOCKS: u64 = 32768;
 
     // The chip of n blocks: a multiple of 4 from 8 to 32,768.
     pub fn new(n: u64) -> ChipAnswer
@@ -45,10 +81,10 @@ impl LargeChip {
         if n % 4 != 0 {
             return ChipAnswer::Refused(Refusal::Range);
         }
-        if n < 8 {
+        if n < LargeChip::FEWEST_BLOCKS {
             return ChipAnswer::Refused(Refusal::Range);
         }
-        if 32768 < n {
+        if LargeChip::MOST_BLOCKS < n {
             return ChipAnswer::Refused(Refusal::Range);
         }
         ChipAnswer::Chip(LargeChip {
@@ -68,23 +104,21 @@ impl LargeChip {
     pub fn pages(self) -> usize
         ensures { λ r. ⌜ r ≡ pagesOf self ⌝ }
     {
-        ((self.blocks / 4 + 2047) / 2048) as usize
+        (self.bitmap_bytes() + (LargeChip::PAGE - 1)) / LargeChip::PAGE
     }
 
     // The pages of a region image; a status byte comes with each.
     pub fn region_pages(self) -> usize
         ensures { λ r. ⌜ r ≡ regionPages self ⌝ }
     {
-        (self.region as usize) * (((self.blocks / 4 + 2047) / 2048) as usize)
+        (self.region as usize) * self.pages()
     }
 
     // The bytes of a region image.
     pub fn region_bytes(self) -> usize
         ensures { λ r. ⌜ r ≡ regionBytes self ⌝ }
     {
-        (self.region as usize)
-            * (((self.blocks / 4 + 2047) / 2048) as usize)
-            * LargeChip::PAGE_WITH_OOB
+        self.region_pages() * LargeChip::PAGE_WITH_OOB
     }
 }
 
@@ -114,10 +148,10 @@ impl BootNumber {
     pub fn path(self, generation: u8) -> PathAnswer
         ensures { λ r. ⌜ r ≡ pathOf (self .0) generation ⌝ }
     {
-        if 16777216 <= self.0 {
+        if SmallChip::BOOTS <= self.0 {
             return PathAnswer::Refused(Refusal::Range);
         }
-        if 3 < generation {
+        if SmallChip::LAST_GENERATION < generation {
             return PathAnswer::Refused(Refusal::Range);
         }
         PathAnswer::Path(4 * self.0 + (generation as u32))
@@ -127,7 +161,7 @@ impl BootNumber {
     pub fn of_path(path: u32) -> BootAnswer
         ensures { λ r. ⌜ r ≡ bootOf path ⌝ }
     {
-        if 67108864 <= path {
+        if SmallChip::WORDS <= path {
             return BootAnswer::Refused(Refusal::Range);
         }
         BootAnswer::Boot(BootNumber(path / 4), (path % 4) as u8)

@@ -8,6 +8,7 @@ ghost use Rattle.ecc.specs.Half.{codeOf, storedBit, difference};
 ghost use Rattle.ecc.specs.Sums.{lineSum, byteSum, foldAt, parityBit, spreadOf, pairsOf, columnsOf, codeFromSums};
 ghost use Rattle.ecc.specs.Verdicts.{countSet, lastSet, oneInEach, verdict, found, halfStart, mended, repairs};
 use chip::Half;
+use chip::SmallChip;
 
 // A code as it is stored: LP7 to LP0, LP15 to LP8, CP5 to CP0 above two 1s; all inverted.
 pub struct Code {
@@ -27,7 +28,7 @@ pub enum Verdict {
 
 impl Verdict {
     // How many bits of the half are put right.
-    pub fn count(self) -> u8
+    pub fn repairs(self) -> u8
         ensures { λ r. ⌜ r ≡ repairs self ⌝ }
     {
         match self {
@@ -145,7 +146,7 @@ fn half_code(half: &[u8]) -> Code
 pub fn code_of(half: &[u8]) -> Code
     ensures { λ r. ⌜ r ≡ codeOf (now (half .entry)) ⌝ }
 {
-    if half.len() == 256 {
+    if half.len() == SmallChip::HALF {
         return half_code(half);
     }
     let s = run_sums(half);
@@ -179,7 +180,7 @@ fn last_set(d: Code) -> u8
 {
     let mut last: u8 = 0;
     let mut j: u8 = 0;
-    while j < 22 {
+    while j < SmallChip::CODE_BITS {
         if stored_bit(d, j) {
             last = j;
         }
@@ -194,7 +195,7 @@ fn one_in_each(d: Code) -> bool
 {
     let mut all = true;
     let mut k: u8 = 0;
-    while k < 11 {
+    while k < SmallChip::CODE_PAIRS {
         let even = stored_bit(d, 2 * k);
         let odd = stored_bit(d, 2 * k + 1);
         if even == odd {
@@ -264,7 +265,7 @@ fn half_start(half: Half) -> usize
 {
     match half {
         Half::First => 0,
-        Half::Second => 256,
+        Half::Second => SmallChip::HALF,
     }
 }
 

@@ -4,6 +4,7 @@ ghost use mathlib.Core.Path.{_≡_};
 ghost use Prim.Native.Nat.{_<_, _%_};
 ghost use lib.Count.{ones};
 ghost use Rattle.hamming.specs.Word.{checkBits, encoded, dataBitOf, isRepair, decoded};
+use chip::SmallChip;
 
 // What was repaired in a word.
 pub enum Repair {
@@ -53,7 +54,7 @@ fn check_bits(bits: u32) -> u32
 pub fn encode(bits: u32) -> u32
     ensures { λ r. ⌜ r ≡ encoded bits ⌝ }
 {
-    bits % 67108864 * 64 + 32 + check_bits(bits)
+    bits % SmallChip::WORDS * 64 + 32 + check_bits(bits)
 }
 
 // The data bit that has the number n, which is not a power of two.

@@ -6,7 +6,7 @@ use Prim.Native.Nat.{ℕ}
 use lib.ListN.{length}
 use Rattle.bbt.specs.Lent.{lentPlan, planned, onChip}
 use Rattle.bbt.specs.Pages.{seen}
-use Rattle.bbt.specs.Plans.{Answer, refuse, Call, for-update, for-recovery, firstPlan}
+use Rattle.bbt.specs.Plans.{Answer, refuse, Call, for-update, for-recovery, planByRules}
 use Rattle.bbt.specs.declared.PairCase.{PairCase}
 use Rattle.chip.specs.Large.{chipOf}
 use Rattle.chip.specs.declared.ChipAnswer.{ChipAnswer}
@@ -29,17 +29,17 @@ module _ (call : Call) (n : ℕ) (image status : List ℕ) where
   planned-out r e = go call e
     where
       go : (call : Call) → lentCase n (besideOf call) image status ≡ NoCase r → planned n call image status ≡ refuse r
-      go (for-update w) e = judged-out n (Bitmap (length w)) image status refuse (λ chip. firstPlan chip (seen chip image status) (for-update w)) r e
-      go for-recovery e = judged-out n Nothing image status refuse (λ chip. firstPlan chip (seen chip image status) for-recovery) r e
+      go (for-update w) e = judged-out n (Bitmap (length w)) image status refuse (λ chip. planByRules chip (seen chip image status) (for-update w)) r e
+      go for-recovery e = judged-out n Nothing image status refuse (λ chip. planByRules chip (seen chip image status) for-recovery) r e
 
   planned-case : (chip : LargeChip) (c : PairCase) → lentCase n (besideOf call) image status ≡ TheCase chip c
       → planned n call image status ≡ workAnswer chip image (wantedOf call) (workOf call n image status c)
   unfolding planned lentPlan
   planned-case chip c e = go call e ∙ sym (work-plans call (case-known n (besideOf call) image status chip c e))
     where
-      go : (call : Call) → lentCase n (besideOf call) image status ≡ TheCase chip c → planned n call image status ≡ firstPlan chip (seen chip image status) call
-      go (for-update w) e = judged-case n (Bitmap (length w)) image status refuse (λ own. firstPlan own (seen own image status) (for-update w)) chip c e
-      go for-recovery e = judged-case n Nothing image status refuse (λ own. firstPlan own (seen own image status) for-recovery) chip c e
+      go : (call : Call) → lentCase n (besideOf call) image status ≡ TheCase chip c → planned n call image status ≡ planByRules chip (seen chip image status) call
+      go (for-update w) e = judged-case n (Bitmap (length w)) image status refuse (λ own. planByRules own (seen own image status) (for-update w)) chip c e
+      go for-recovery e = judged-case n Nothing image status refuse (λ own. planByRules own (seen own image status) for-recovery) chip c e
 
   -- what f makes of an answer, where it passes a refusal on
   module _ {A : Type 0} (out : Refusal → A) (f : LargeChip → Answer → A) (passed : (chip : LargeChip) (r : Refusal) → f chip (refuse r) ≡ out r) where

@@ -8,7 +8,7 @@ use native.Mathlib.Omega.{arith}
 use Rattle.bbt.proofs.ToldSteps.{tells-steps}
 use Rattle.bbt.specs.Copies.{Table}
 use Rattle.bbt.specs.Entries.{updatedBytes}
-use Rattle.bbt.specs.Images.{chunk, pageImage, image, Imaged, no-image, page-image, imageAt, planImage}
+use Rattle.bbt.specs.Images.{chunk, partImage, pageImage, Imaged, no-image, page-image, imageAt, planImage}
 use Rattle.bbt.specs.Pairs.{same}
 use Rattle.bbt.specs.Plans.{Step, erase, write, writes, copySteps, Plan, idle, single, double, stepsOf, planVersion, nextVersion, Answer, refuse, plan, updateFrom, updated, anded, holds}
 use Rattle.bbt.specs.Told.{toldStep, toldPlan, toldSteps, nthStep}
@@ -30,7 +30,7 @@ use Rattle.plan.specs.declared.Work.the-variants.{Refused as NoWork, Kee
 -- the image of a told step, where pages of this version and bitmap are written
 abbrev pub stepImage : ℕ → List ℕ → ToldStep → Imaged
 stepImage v bitmap (Erase b) = no-image Range
-stepImage v bitmap (Write b p k) = page-image (pageImage k v (chunk p bitmap))
+stepImage v bitmap (Write b p k) = page-image (partImage k v (chunk p bitmap))
 stepImage v bitmap Past = no-image Range
 
 -- ---- steps that write one table
@@ -48,7 +48,7 @@ module _ (chip : LargeChip) (t : Table) where
   tells-erase b es h (suc i) = h i
 
   tells-write : (b p : ℕ) (k : Kind) (es : List Step) → Tells es → Tells (write b p k t ∷ es)
-  unfolding imageAt nthStep image
+  unfolding imageAt nthStep pageImage
   tells-write b p k es h zero = refl
   tells-write b p k es h (suc i) = h i
 

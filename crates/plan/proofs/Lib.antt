@@ -1,4 +1,4 @@
-pub mod Keeping
+pub mod NewEqualsOld
 pub mod Working
 pub mod Answering
 pub mod Asking

@@ -9,7 +9,7 @@ use borrow.Author.Tests.{eq-eqb, le-leb}
 use borrow.Rule.Slice.PartMut.{midOf, putMid}
 use lib.ListN.{length, getD, take, drop, replicate, length-append, length-take, length-replicate, replicate-append-replicate}
 use lib.Seq.{take-at, drop-at}
-use Rattle.bbt.specs.Images.{imageData, imageTail, pageImage}
+use Rattle.bbt.specs.Images.{imageData, imageTail, partImage}
 use Rattle.bbt.specs.Pages.{kindWord}
 use Rattle.bbt.specs.declared.Kind.{Kind}
 use Rattle.bits.proofs.Filling.{copied-same}
@@ -52,8 +52,8 @@ pub page-made : (k : Kind) (v : ℕ) (part page blank x s y : List ℕ) → leng
     → x ≡ copied part (midOf 0 (length part - 0) blank)
     → s ≡ wordBytes (kindWord k)
     → y ≡ copied (tailOf s v) (midOf 2062 5 (putMid 0 (length part - 0) blank x))
-    → putMid 2062 5 (putMid 0 (length part - 0) blank x) y ≡ pageImage k v part
-unfolding pageImage imageData imageTail
+    → putMid 2062 5 (putMid 0 (length part - 0) blank x) y ≡ partImage k v part
+unfolding partImage imageData imageTail
 page-made k v part page blank x s y e h b ex es ey =
     let n = length part in
     let front : List ℕ = part ++ replicate (2048 - n) 255 in
@@ -70,7 +70,7 @@ page-made k v part page blank x s y e h b ex es ey =
 
 -- the image of the first n bytes of a buffer, in a page
 pub first-image : (k : Kind) (v n : ℕ) (l part page : List ℕ) → length page ≡ 2112 → n ≤ 2048 → take n l ≡ part
-    → imageInto k v (take (n - 0) l) page ≡ pageImage k v part
+    → imageInto k v (take (n - 0) l) page ≡ partImage k v part
 unfolding imageInto
 first-image k v n l part page e h ep =
     let same : n - 0 ≡ n = omega arith in

@@ -10,7 +10,7 @@ use lib.IntN.{ℤ, pos, negsuc}
 use lib.ListN.{length}
 use Rattle.bbt.specs.Copies.{Table}
 use Rattle.bbt.specs.Pages.{seen}
-use Rattle.bbt.specs.Plans.{plan, idle, double, holds, readCase, reading, updateFrom, update, target, otherKind, recoverTo, anded, recoverNewer, recoverCase, recovery, Call, for-update, for-recovery, firstPlan}
+use Rattle.bbt.specs.Plans.{plan, idle, double, holds, readCase, reading, updateFrom, update, target, otherKind, recoverTo, anded, recoverNewer, recoverCase, recovery, Call, for-update, for-recovery, planByRules}
 use Rattle.bbt.specs.Stored.{storedTable}
 use Rattle.bbt.specs.declared.Kind.{Kind}
 use Rattle.bbt.specs.declared.PairCase.{PairCase}
@@ -88,8 +88,8 @@ module _ {n : ℕ} {chip : LargeChip} {beside : Beside} {image status : List ℕ
 
 module _ {n : ℕ} {chip : LargeChip} {image status : List ℕ} {c : PairCase} where
   pub work-plans : (call : Call) → Known n chip (besideOf call) image status c
-      → workAnswer chip image (wantedOf call) (workOf call n image status c) ≡ firstPlan chip (seen chip image status) call
-  unfolding firstPlan update reading recovery
+      → workAnswer chip image (wantedOf call) (workOf call n image status c) ≡ planByRules chip (seen chip image status) call
+  unfolding planByRules update reading recovery
   work-plans (for-update w) k =
       update-plans w c k ∙ ap (λ x. updateFrom w (readCase (pagesOf chip) (seen chip image status) x)) (sym (k .the-case))
   work-plans for-recovery k = recovery-plans [] c k ∙ ap (recoverCase chip (seen chip image status)) (sym (k .the-case))

@@ -4,7 +4,7 @@ use mathlib.Core.List.{List}
 use Prim.Native.Nat.{ℕ}
 use lib.Dec.{eqb, leb}
 use lib.ListN.{length}
-use Rattle.bbt.specs.Images.{Imaged, no-image, page-image, pageImage}
+use Rattle.bbt.specs.Images.{Imaged, no-image, page-image, partImage}
 use Rattle.bbt.specs.Lent.{onChip, imaged}
 use Rattle.bbt.specs.Plans.{Call}
 use Rattle.bbt.specs.declared.Kind.{Kind}
@@ -19,7 +19,7 @@ use Rattle.region.specs.declared.LentCase.the-variants.{Refused as NoCase}
 
 -- a page of 2,112 bytes after the image of a part of at most 2,048 bytes was put into it; of other lengths, nothing is
 unfoldable pub imageInto : Kind → ℕ → List ℕ → List ℕ → List ℕ
-imageInto k v part page = cond (eqb (length page) 2112 && leb (length part) 2048) (pageImage k v part) page
+imageInto k v part page = cond (eqb (length page) 2112 && leb (length part) 2048) (partImage k v part) page
 
 -- N first (2), then room for a page (1), then the image of step i of the plan; its own refusal comes last
 unfoldable pub lentImage : ℕ → Call → List ℕ → List ℕ → ℕ → List ℕ → Imaged

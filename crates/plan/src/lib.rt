@@ -7,7 +7,7 @@ ghost use Rattle.bbt.specs.Images.{chunk, planImage};
 ghost use Rattle.bbt.specs.Plans.{for-update, for-recovery, nextVersion, holds, updateFrom, otherKind};
 ghost use Rattle.bbt.specs.Stored.{storedParts, storedTable};
 ghost use Rattle.bbt.specs.Told.{chipBlock};
-ghost use Rattle.bitmap.specs.Made.{keeps};
+ghost use Rattle.bitmap.specs.Made.{newEqualsOld};
 ghost use Rattle.chip.specs.Large.{bitmapBytes, pagesOf};
 ghost use Rattle.plan.specs.Answers.{toldAnswer, planAnswer};
 ghost use Rattle.plan.specs.PageImages.{imageInto, imageAnswerBy, imageAfterBy, pageCase, imageAnswer, imageAfter};
@@ -112,7 +112,7 @@ fn next_version(v: u8) -> u8
 }
 
 // A plan on a chip.
-fn planned(chip: LargeChip, version: u8, shape: Shape) -> PlanAnswer
+fn plan_on(chip: LargeChip, version: u8, shape: Shape) -> PlanAnswer
     ensures { λ r. ⌜ r ≡ PlanAnswer.Planned (record { version = version; pages = pagesOf chip; shape = shape }) ⌝ }
 {
     PlanAnswer::Planned(Plan {
@@ -139,15 +139,15 @@ fn chunk_of(bitmap: &[u8], p: u8) -> &[u8]
 }
 
 // Does the update rule keep the table of a block as it is?
-fn keeps_table(chip: LargeChip, image: &[u8], b: RegionBlock, wanted: &[u8]) -> bool
+fn new_table_equals_old(chip: LargeChip, image: &[u8], b: RegionBlock, wanted: &[u8]) -> bool
     requires { ⌜ (chip .region * pagesOf chip * 2112 ≤ length (now image)) × (b .0 < chip .region) × (length (now wanted) ≡ bitmapBytes chip) ⌝ }
-    ensures { λ r. ⌜ r ≡ keeps (storedParts chip (now (image .entry)) (b .0) (pagesOf chip)) (now (wanted .entry)) ⌝ }
+    ensures { λ r. ⌜ r ≡ newEqualsOld (storedParts chip (now (image .entry)) (b .0) (pagesOf chip)) (now (wanted .entry)) ⌝ }
 {
     let pages = chip.pages();
     let mut kept = true;
     let mut p: u8 = 0;
     while (p as usize) < pages {
-        if !bitmap::keeps_old(region::part(chip, image, b, p), chunk_of(wanted, p)) {
+        if !bitmap::new_equals_old(region::part(chip, image, b, p), chunk_of(wanted, p)) {
             kept = false;
         }
         p += 1;
@@ -156,11 +156,11 @@ fn keeps_table(chip: LargeChip, image: &[u8], b: RegionBlock, wanted: &[u8]) -> 
 }
 
 // A plan that writes both copies with the version after this one.
-fn both_planned(chip: LargeChip, version: u8, p: RegionBlock, m: RegionBlock) -> PlanAnswer
+fn both_copies(chip: LargeChip, version: u8, p: RegionBlock, m: RegionBlock) -> PlanAnswer
     ensures { λ r. ⌜ r ≡ PlanAnswer.Planned (record { version = nextVersion version; pages = pagesOf chip; shape = Shape.Both (chipBlock chip (p .0)) (chipBlock chip (m .0)) }) ⌝ }
 {
     let both = Shape::Both(bbt::chip_block(chip, p), bbt::chip_block(chip, m));
-    planned(chip, next_version(version), both)
+    plan_on(chip, next_version(version), both)
 }
 
 // The update of a settled pair: nothing where the new table equals the old, else both copies with version plus 1.
@@ -175,10 +175,10 @@ fn settled_update(
     ensures { λ r. ⌜ r ≡ toldAnswer chip (updateFrom (now (wanted .entry)) (holds (p .0) (m .0) (storedTable chip (now (image .entry)) (p .0)))) ⌝ }
 {
     let v = region::version(chip, image, p);
-    if keeps_table(chip, image, p, wanted) {
-        return planned(chip, v, Shape::Empty);
+    if new_table_equals_old(chip, image, p, wanted) {
+        return plan_on(chip, v, Shape::Empty);
     }
-    both_planned(chip, v, p, m)
+    both_copies(chip, v, p, m)
 }
 
 // The plan of a work.
@@ -188,13 +188,13 @@ fn plan_of(chip: LargeChip, image: &[u8], wanted: &[u8], work: Work) -> PlanAnsw
 {
     match work {
         Work::Refused(r) => PlanAnswer::Refused(r),
-        Work::Keep(b) => planned(chip, region::version(chip, image, b), Shape::Empty),
+        Work::Keep(b) => plan_on(chip, region::version(chip, image, b), Shape::Empty),
         Work::Update(p, m) => settled_update(chip, image, p, m, wanted),
         Work::Copy(kind, from, to) => {
             let one = Shape::One(kind, bbt::chip_block(chip, to));
-            planned(chip, region::version(chip, image, from), one)
+            plan_on(chip, region::version(chip, image, from), one)
         }
-        Work::Merge(p, m) => both_planned(chip, region::version(chip, image, p), p, m),
+        Work::Merge(p, m) => both_copies(chip, region::version(chip, image, p), p, m),
     }
 }
 

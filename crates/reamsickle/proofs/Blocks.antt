@@ -16,7 +16,7 @@ use Rattle.bbt.specs.Entries.{updatedBytes}
 use Rattle.bbt.specs.Lent.{onChip, regionLent, statusesRight, callLent, judged, lentReading, tableReading, lentPlan}
 use Rattle.bbt.specs.Pages.{View, seen}
 use Rattle.bbt.specs.Pairs.{same, Case, no-pair, alone, settled, merging, differing, pairCase}
-use Rattle.bbt.specs.Plans.{refuse, plan, idle, double, refused, readCase, reading, updated, updateFrom, update, target, otherKind, recoverTo, recoverNewer, recoverCase, recovery, Call, for-update, for-recovery, firstPlan}
+use Rattle.bbt.specs.Plans.{refuse, plan, idle, double, refused, readCase, reading, updated, updateFrom, update, target, otherKind, recoverTo, recoverNewer, recoverCase, recovery, Call, for-update, for-recovery, planByRules}
 use Rattle.bbt.specs.Told.{chipBlock}
 use Rattle.chip.specs.Large.{chipOf, bitmapBytes, pagesOf}
 use Rattle.chip.specs.declared.ChipAnswer.{ChipAnswer}
@@ -91,8 +91,8 @@ module _ (n : ℕ) (image status : List ℕ) (chip : LargeChip) (is : chipOf n �
   recovery-case (differing (pos k) p m) x = below m (x .1 .inside)
   recovery-case (differing (negsuc k) p m) x = below p (x .0 .inside)
 
-  plan-judged : (call : Call) (l s : Bool) → PlanBelow n (toldAnswer chip (judged refuse l s (firstPlan chip R call)))
-  unfolding firstPlan update reading recovery
+  plan-judged : (call : Call) (l s : Bool) → PlanBelow n (toldAnswer chip (judged refuse l s (planByRules chip R call)))
+  unfolding planByRules update reading recovery
   plan-judged (for-update w) true true = update-case w (pairCase chip R) (case-copies chip R)
   plan-judged for-recovery true true = recovery-case (pairCase chip R) (case-copies chip R)
   plan-judged call true false = tt

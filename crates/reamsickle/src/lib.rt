@@ -98,14 +98,14 @@ pub extern "C" fn ream_spare_read(spare: &[u8], fields: &mut [u8]) -> u64
     ensures answer { λ r. ⌜ r ≡ spareCode (now (spare .entry)) (now (fields .entry)) ⌝ }
     ensures out { λ _. ⌜ now (fields .exit) ≡ spareFieldsAfter (now (spare .entry)) (now (fields .entry)) ⌝ }
 {
-    if fields.len() != 11 {
+    if fields.len() != SmallChip::FIELDS {
         return refusal_code(Refusal::Length);
     }
     match spare::read_spare(spare) {
         SpareAnswer::Refused(r) => refusal_code(r),
         SpareAnswer::Read(f) => {
             let repaired = f.repaired;
-            put_fields(f, repaired.number(), fields);
+            put_fields(f, repaired.repairs(), fields);
             0
         }
     }
@@ -118,7 +118,7 @@ pub extern "C" fn ream_page_read(bytes: &mut [u8], spare: &[u8], fields: &mut [u
     ensures page { λ _. ⌜ now (bytes .exit) ≡ pageDataAfter (now (bytes .entry)) (now (spare .entry)) (now (fields .entry)) ⌝ }
     ensures out { λ _. ⌜ now (fields .exit) ≡ pageFieldsAfter (now (bytes .entry)) (now (spare .entry)) (now (fields .entry)) ⌝ }
 {
-    if fields.len() != 11 {
+    if fields.len() != SmallChip::FIELDS {
         return refusal_code(Refusal::Length);
     }
     match spare::read_page(bytes, spare) {
@@ -175,9 +175,9 @@ fn put_steps(plan: Plan, steps: &mut [u8])
     requires { ⌜ 4 * length (toldSteps plan) ≤ length (now steps) ⌝ }
     ensures { λ _. ⌜ now (steps .exit) ≡ stepsPut (toldSteps plan) (now (steps .entry)) ⌝ }
 {
-    let count = plan.count() as usize;
+    let total = plan.step_count() as usize;
     let mut k: usize = 0;
-    while k < count {
+    while k < total {
         let four = step_bytes(plan.step(k as u64));
         let at = 4 * k;
         let end = at + 4;
@@ -203,7 +203,7 @@ fn tell_plan(n: u64, answer: PlanAnswer, steps: &mut [u8]) -> u64
                 PlanAnswer::Planned(plan) => {
                     let version = plan.version;
                     put_steps(plan, steps);
-                    256 * (version as u64) + 65536 * (plan.count() as u64)
+                    256 * (version as u64) + 65536 * (plan.step_count() as u64)
                 }
             }
         }

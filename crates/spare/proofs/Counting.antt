@@ -6,14 +6,14 @@ use native.Mathlib.Omega.{arith}
 use Rattle.ecc.specs.Verdicts.{repairs}
 use Rattle.ecc.specs.declared.Verdict.{Verdict}
 use Rattle.ecc.specs.declared.Verdict.the-variants.{Clean, CodeBit, DataBit, NotRepairable}
-use Rattle.spare.specs.declared.Repairs.{Repairs}
+use Rattle.spare.specs.declared.Repaired.{Repaired}
 use Rattle.spare.specs.Reading.{spareRepairs}
 
 one-le : (b : Bool) → cond b 1 0 ≤ 1
 one-le true = omega arith
 one-le false = omega arith
 
-pub spare-le : (r : Repairs) → spareRepairs r ≤ 3
+pub spare-le : (r : Repaired) → spareRepairs r ≤ 3
 spare-le r = omega (arith, one-le (r .tag), one-le (r .path), one-le (r .count))
 
 pub repairs-le : (v : Verdict) → repairs v ≤ 1

@@ -12,7 +12,7 @@ use Rattle.spare.specs.declared.NearestTag.{NearestTag}
 use Rattle.spare.specs.declared.NearestTag.the-variants.{Found, Missing}
 use Rattle.spare.specs.declared.SpareAnswer.{SpareAnswer}
 use Rattle.spare.specs.declared.SpareAnswer.the-variants.{Read, Refused}
-use Rattle.spare.specs.declared.Repairs.{Repairs}
+use Rattle.spare.specs.declared.Repaired.{Repaired}
 use Rattle.spare.specs.declared.SpareFields.{SpareFields}
 use Rattle.spare.specs.declared.Status.{Status}
 use Rattle.spare.specs.declared.Status.the-variants.{Good, Bad}
@@ -62,5 +62,5 @@ unfoldable pub spareAnswer : List ℕ → SpareAnswer
 spareAnswer s = cond (eqb (length s) 16) (byStatus s (statusOf (getD s 5 0))) (Refused Length)
 
 -- how many of tag, path word and count word were repaired: 0 to 3
-abbrev pub spareRepairs : Repairs → ℕ
+abbrev pub spareRepairs : Repaired → ℕ
 spareRepairs r = cond (r .tag) 1 0 + cond (r .path) 1 0 + cond (r .count) 1 0

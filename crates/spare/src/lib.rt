@@ -76,15 +76,15 @@ pub fn is_tag(tag: u64) -> bool
 }
 
 // Which of tag, path word and count word were repaired.
-pub struct Repairs {
+pub struct Repaired {
     pub tag: bool,
     pub path: bool,
     pub count: bool,
 }
 
-impl Repairs {
+impl Repaired {
     // How many were repaired.
-    pub fn number(self) -> u8
+    pub fn repairs(self) -> u8
         ensures { λ r. ⌜ r ≡ spareRepairs self ⌝ }
     {
         one_if(self.tag) + one_if(self.path) + one_if(self.count)
@@ -104,7 +104,7 @@ pub struct SpareFields {
     pub tag: u8,
     pub path: u32,
     pub count: u32,
-    pub repaired: Repairs,
+    pub repaired: Repaired,
 }
 
 // What reading a spare answers.
@@ -118,12 +118,12 @@ fn by_words(spare: &[u8], tag: u8, path: Decoded, count: Decoded) -> SpareAnswer
     requires { ⌜ length (now spare) ≡ 16 ⌝ }
     ensures { λ r. ⌜ r ≡ byWords (now (spare .entry)) tag path count ⌝ }
 {
-    if count.bits / 262144 != 0x56 {
+    if count.bits / SmallChip::COUNTS != SmallChip::MAGIC {
         return SpareAnswer::Refused(Refusal::Magic);
     }
     let path_repair = path.repair;
     let count_repair = count.repair;
-    let repaired = Repairs {
+    let repaired = Repaired {
         tag: spare[4] != tag,
         path: path_repair.is_repair(),
         count: count_repair.is_repair(),
@@ -132,7 +132,7 @@ fn by_words(spare: &[u8], tag: u8, path: Decoded, count: Decoded) -> SpareAnswer
         status: spare[5],
         tag: tag,
         path: path.bits,
-        count: count.bits % 262144,
+        count: count.bits % SmallChip::COUNTS,
         repaired: repaired,
     })
 }
@@ -190,8 +190,8 @@ fn is_writable(tag: u64, path: u64, count: u64) -> bool
     ensures { λ r. ⌜ r ≡ isWritable tag path count ⌝ }
 {
     if is_tag(tag) {
-        if path < 67108864 {
-            return count <= 262142;
+        if path < SmallChip::PATHS {
+            return count <= SmallChip::LAST_COUNT;
         }
     }
     false
@@ -203,9 +203,9 @@ fn fill_spare(bytes: &[u8], tag: u8, path: u32, count: u32, spare: &mut [u8])
     ensures { λ _. ⌜ now (spare .exit) ≡ spareOf (now (bytes .entry)) tag path count ⌝ }
 {
     let p = bits::bytes_of(hamming::encode(path));
-    let c = bits::bytes_of(hamming::encode(22544384 + count));
-    let first = ecc::code_of(&bytes[..256]);
-    let second = ecc::code_of(&bytes[256..]);
+    let c = bits::bytes_of(hamming::encode(SmallChip::MAGIC_WITH_NO_COUNT + count));
+    let first = ecc::code_of(&bytes[..SmallChip::HALF]);
+    let second = ecc::code_of(&bytes[SmallChip::HALF..]);
     let made = [
         p[0],
         p[1],
@@ -261,7 +261,7 @@ impl PageFields {
         let repaired = spare.repaired;
         let first = self.first;
         let second = self.second;
-        repaired.number() + first.count() + second.count()
+        repaired.repairs() + first.repairs() + second.repairs()
     }
 }
 
@@ -352,8 +352,8 @@ fn judge_halves(bytes: &[u8], spare: &[u8], f: SpareFields) -> Judged
     requires { ⌜ (length (now bytes) ≡ 512) × (length (now spare) ≡ 16) ⌝ }
     ensures { λ j. ⌜ j ≡ judgedBy (bySpare (now (bytes .entry)) (now (spare .entry)) (SpareAnswer.Read f)) ⌝ }
 {
-    let first = ecc::judge_half(&bytes[..256], stored_code(spare, Half::First));
-    let second = ecc::judge_half(&bytes[256..], stored_code(spare, Half::Second));
+    let first = ecc::judge_half(&bytes[..SmallChip::HALF], stored_code(spare, Half::First));
+    let second = ecc::judge_half(&bytes[SmallChip::HALF..], stored_code(spare, Half::Second));
     by_verdicts(f, first, second)
 }
 

@@ -1,6 +1,6 @@
 -- `made` meets its contract: the lengths are judged in their order, and `fill_first` makes the bitmap.
 -- Assumes nothing.
-use mathlib.Core.Path.{refl}
+use mathlib.Core.Path.{refl, _∙_, sym}
 use borrow.Author.Tests.{eq-eqb, ne-eqb}
 use Rattle.bitmap.specs.Made.{marksLent}
 use borrow.Author.Needs.{needs}
@@ -14,12 +14,12 @@ returns : tie.Need-returns
 unfolding marksLent
 returns c = (simp (ne-eqb _ _ (c .if1 .taken)), refl)
 
-cast-if2 : tie.Need-cast-if2
-cast-if2 c = search needs
+bitmap-bytes-requires : tie.Need-bitmap-bytes-requires
+bitmap-bytes-requires c κs = search needs
 
 returns-2 : tie.Need-returns-2
 unfolding marksLent
-returns-2 c = (simp (eq-eqb _ _ (c .before .before .if1 .left), ne-eqb _ _ (c .if2 .taken)), refl)
+returns-2 c = (simp (eq-eqb _ _ (c .before .before .if1 .left), ne-eqb _ _ (λ e. c .if2 .taken (e ∙ sym (c .before .bitmap-bytes .ensures)))), refl)
 
 fill-first-requires : tie.Need-fill-first-requires
 fill-first-requires c κs = search needs
@@ -29,9 +29,9 @@ same-length c = search needs
 
 returns-3 : tie.Need-returns-3
 unfolding marksLent
-returns-3 c = (simp (eq-eqb _ _ (c .before .before .before .before .before .before .if1 .left), eq-eqb _ _ (c .before .before .before .before .if2 .left)), rw (c .before .before .fill-first .ensures, c .before .before .before .before .if2 .left) refl)
+returns-3 c = (simp (eq-eqb _ _ (c .before .before .before .before .before .before .if1 .left), eq-eqb _ _ (c .before .before .before .before .if2 .left ∙ c .before .before .before .before .before .bitmap-bytes .ensures)), rw (c .before .before .fill-first .ensures, c .before .before .before .before .if2 .left, c .before .before .before .before .before .bitmap-bytes .ensures) refl)
 
 pub made-spec : {M : Type 1} → statement M
 made-spec =
     tie.close
-    (tie.spec cast-if1 returns cast-if2 returns-2 fill-first-requires same-length returns-3)
+    (tie.spec cast-if1 returns bitmap-bytes-requires returns-2 fill-first-requires same-length returns-3)

@@ -18,8 +18,8 @@ enum-known-work-2 c = search needs
 version-requires : tie.Need-version-requires
 version-requires c κs = search needs
 
-planned-requires : tie.Need-planned-requires
-planned-requires c κs = search needs
+plan-on-requires : tie.Need-plan-on-requires
+plan-on-requires c κs = search needs
 
 enum-known-work-3 : tie.Need-enum-known-work-3
 enum-known-work-3 c = search needs
@@ -39,8 +39,8 @@ chip-block-requires c κs = search needs
 version-requires-2 : tie.Need-version-requires-2
 version-requires-2 c κs = search needs
 
-planned-requires-2 : tie.Need-planned-requires-2
-planned-requires-2 c κs = search needs
+plan-on-requires-2 : tie.Need-plan-on-requires-2
+plan-on-requires-2 c κs = search needs
 
 enum-known-work-5 : tie.Need-enum-known-work-5
 enum-known-work-5 c = search needs
@@ -48,8 +48,8 @@ enum-known-work-5 c = search needs
 version-requires-3 : tie.Need-version-requires-3
 version-requires-3 c κs = search needs
 
-both-planned-requires : tie.Need-both-planned-requires
-both-planned-requires c κs = search needs
+both-copies-requires : tie.Need-both-copies-requires
+both-copies-requires c κs = search needs
 
 returns : tie.Need-returns
 unfolding workAnswer
@@ -57,7 +57,7 @@ returns c = rw (c .before .work .given .1) refl
 
 returns-2 : tie.Need-returns-2
 unfolding workAnswer planVersion
-returns-2 c = rw (c .before .before .before .work2 .given .1) (rw (c .planned .ensures, c .before .version .ensures) refl)
+returns-2 c = rw (c .before .before .before .work2 .given .1) (rw (c .plan-on .ensures, c .before .version .ensures) refl)
 
 returns-3 : tie.Need-returns-3
 unfolding workAnswer
@@ -65,11 +65,11 @@ returns-3 c = rw (c .before .before .work3 .given .1) (c .settled-update .ensure
 
 returns-4 : tie.Need-returns-4
 unfolding workAnswer planVersion
-returns-4 c = rw (c .before .before .before .before .work4 .given .1) (rw (c .planned2 .ensures, c .before .version2 .ensures, c .before .before .chip-block .ensures) refl)
+returns-4 c = rw (c .before .before .before .before .work4 .given .1) (rw (c .plan-on2 .ensures, c .before .version2 .ensures, c .before .before .chip-block .ensures) refl)
 
 returns-5 : tie.Need-returns-5
 unfolding workAnswer planVersion anded
-returns-5 c = rw (c .before .before .before .work5 .given .1) (rw (c .both-planned .ensures, c .before .version3 .ensures) refl)
+returns-5 c = rw (c .before .before .before .work5 .given .1) (rw (c .both-copies .ensures, c .before .version3 .ensures) refl)
 
 pub plan-of-spec : {M : Type 1} → statement M
 plan-of-spec =
@@ -78,16 +78,16 @@ plan-of-spec =
     enum-known-work
     enum-known-work-2
     version-requires
-    planned-requires
+    plan-on-requires
     enum-known-work-3
     settled-update-requires
     enum-known-work-4
     chip-block-requires
     version-requires-2
-    planned-requires-2
+    plan-on-requires-2
     enum-known-work-5
     version-requires-3
-    both-planned-requires
+    both-copies-requires
     returns
     returns-2
     returns-3

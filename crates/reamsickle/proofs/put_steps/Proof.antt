@@ -17,16 +17,16 @@ use Rattle.reamsickle.proofs.put_steps.Statement.{statement}
 use Rattle.reamsickle.proofs.put_steps.Tie as tie
 
 abbrev Inv-loop : tie.InvT-loop
-Inv-loop plan steps₀ count k₀ steps k = (k ≤ count) × (length steps ≡ length steps₀) × (steps ≡ stepsPut (take k (toldSteps plan)) steps₀)
+Inv-loop plan steps₀ total k₀ steps k = (k ≤ total) × (length steps ≡ length steps₀) × (steps ≡ stepsPut (take k (toldSteps plan)) steps₀)
 
 abbrev μ-loop : tie.MeasureT-loop
-μ-loop plan steps₀ count k₀ steps k = count - k
+μ-loop plan steps₀ total k₀ steps k = total - k
 
-count-requires : tie.Need-count-requires Inv-loop μ-loop
-count-requires c κs = search needs
+step-count-requires : tie.Need-step-count-requires Inv-loop μ-loop
+step-count-requires c κs = search needs
 
-cast-count : tie.Need-cast-count Inv-loop μ-loop
-cast-count c = search needs
+cast-total : tie.Need-cast-total Inv-loop μ-loop
+cast-total c = search needs
 
 loop-holds : tie.Need-loop-holds Inv-loop μ-loop
 loop-holds c = (omega arith, refl, sym (put-none (toldSteps (c .before .before .args .plan)) (c .before .before .args .steps .now)))
@@ -38,10 +38,10 @@ step-bytes-requires : tie.Need-step-bytes-requires Inv-loop μ-loop
 step-bytes-requires c κs = search needs
 
 mul-at : tie.Need-mul-at Inv-loop μ-loop
-mul-at c = omega (arith, c .before .before .before .before .count .ensures, c .before .before .before .before .before .before .pre)
+mul-at c = omega (arith, c .before .before .before .before .step-count .ensures, c .before .before .before .before .before .before .pre)
 
 add-end : tie.Need-add-end Inv-loop μ-loop
-add-end c = omega (arith, c .before .before .before .before .count .ensures, c .before .before .before .before .before .before .pre)
+add-end c = omega (arith, c .before .before .before .before .step-count .ensures, c .before .before .before .before .before .before .pre)
 
 slice-aggregate-copy : tie.Need-slice-aggregate-copy Inv-loop μ-loop
 slice-aggregate-copy c = search needs
@@ -53,13 +53,13 @@ part-copy-start : tie.Need-part-copy-start Inv-loop μ-loop
 part-copy-start c = search needs
 
 part-copy-end : tie.Need-part-copy-end Inv-loop μ-loop
-part-copy-end c = omega (arith, c .before .before .before .before .before .count .ensures, c .before .before .before .before .before .before .before .pre)
+part-copy-end c = omega (arith, c .before .before .before .before .before .step-count .ensures, c .before .before .before .before .before .before .before .pre)
 
 copy-requires : tie.Need-copy-requires Inv-loop μ-loop
 copy-requires c κs = search needs
 
 add-k : tie.Need-add-k Inv-loop μ-loop
-add-k c = omega (arith, c .before .before .before .before .before .before .before .before .before .count .ensures, c .before .before .before .before .before .before .before .before .before .before .before .pre)
+add-k c = omega (arith, c .before .before .before .before .before .before .before .before .before .step-count .ensures, c .before .before .before .before .before .before .before .before .before .before .before .pre)
 
 loop-less : tie.Need-loop-less Inv-loop μ-loop
 loop-less c = omega arith
@@ -69,7 +69,7 @@ loop-again c =
     let es = toldSteps (c .before .before .before .before .before .before .before .before .before .before .before .args .plan) in
     let loop = c .before .before .before .before .before .before .before .before .loop in
     let k = loop .k in
-    let here : k < length es = omega (arith, c .before .before .before .before .before .before .before .before .before .count .ensures) in
+    let here : k < length es = omega (arith, c .before .before .before .before .before .before .before .before .before .step-count .ensures) in
     let inside : 4 * k + 4 ≤ length (loop .steps) = omega (arith, c .before .before .before .before .before .before .before .before .before .before .before .pre, loop .inv .1) in
     let four = c .before .before .before .before .before .step-bytes .ensures ∙ ap stepBytes (c .before .before .before .before .before .before .step .ensures) in (
       omega arith,
@@ -85,7 +85,7 @@ returns : tie.Need-returns Inv-loop μ-loop
 returns c =
     let es = toldSteps (c .before .before .before .before .args .plan) in
     let loop = c .before .loop in
-    loop .inv .2 ∙ ap (λ (s : List Step). stepsPut s (c .before .before .before .before .args .steps .now)) (take-all (loop .k) es (omega (arith, c .before .before .count .ensures)))
+    loop .inv .2 ∙ ap (λ (s : List Step). stepsPut s (c .before .before .before .before .args .steps .now)) (take-all (loop .k) es (omega (arith, c .before .before .step-count .ensures)))
 
 pub put-steps-spec : {M : Type 1} → statement M
 put-steps-spec =
@@ -93,8 +93,8 @@ put-steps-spec =
     (tie.spec
     Inv-loop
     μ-loop
-    count-requires
-    cast-count
+    step-count-requires
+    cast-total
     loop-holds
     step-requires
     step-bytes-requires

@@ -27,8 +27,8 @@ refusal-code-requires-2 c κs = search needs
 enum-known-f : tie.Need-enum-known-f
 enum-known-f c = search needs
 
-number-requires : tie.Need-number-requires
-number-requires c κs = search needs
+repairs-requires : tie.Need-repairs-requires
+repairs-requires c κs = search needs
 
 put-fields-requires : tie.Need-put-fields-requires
 put-fields-requires c κs = search needs
@@ -48,7 +48,7 @@ unfolding spareCode spareFieldsAfter
 returns-3 c =
     let e = eq-eqb _ _ (c .before .before .before .before .before .before .before .before .before .before .if1 .left) in
     let a = sym (c .before .before .before .before .before .before .before .before .before .read-spare .ensures) ∙ c .before .before .before .before .before .before .before .f .given .1 in
-    (simp (e, a), simp (e, a) (c .before .before .put-fields .ensures ∙ copied-same _ _ (c .before .before .before .before .before .before .before .before .before .before .if1 .left) ∙ rw (c .before .before .before .before .number .ensures) refl))
+    (simp (e, a), simp (e, a) (c .before .before .put-fields .ensures ∙ copied-same _ _ (c .before .before .before .before .before .before .before .before .before .before .if1 .left) ∙ rw (c .before .before .before .before .repairs .ensures) refl))
 
 pub ream-spare-read-spec : {M : Type 1} → statement M
 ream-spare-read-spec =
@@ -60,7 +60,7 @@ ream-spare-read-spec =
     enum-known-r
     refusal-code-requires-2
     enum-known-f
-    number-requires
+    repairs-requires
     put-fields-requires
     returns-2
     same-length

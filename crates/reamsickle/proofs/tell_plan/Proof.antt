@@ -47,8 +47,8 @@ cast-result c = search needs
 mul-result : tie.Need-mul-result
 mul-result c = search needs
 
-count-requires : tie.Need-count-requires
-count-requires c κs = search needs
+step-count-requires : tie.Need-step-count-requires
+step-count-requires c κs = search needs
 
 cast-result-2 : tie.Need-cast-result-2
 cast-result-2 c = search needs
@@ -81,7 +81,7 @@ returns-4 c =
     let l = eq-eqb _ _ (c .before .before .before .before .before .before .before .before .if1 .left) in
     let a = c .before .before .before .before .before .before .answer2 .given .1 in
     let version = c .before .before .before .before .before .before .answer2 .given .0 .0 .version in
-    (simp (e, l, a) (ap (λ (n : ℕ). 256 * version + 65536 * n) (c .count .ensures)), simp (e, l, a) (c .before .before .before .put-steps .ensures))
+    (simp (e, l, a) (ap (λ (n : ℕ). 256 * version + 65536 * n) (c .step-count .ensures)), simp (e, l, a) (c .before .before .before .put-steps .ensures))
 
 pub tell-plan-spec : {M : Type 1} → statement M
 tell-plan-spec =
@@ -99,7 +99,7 @@ tell-plan-spec =
     put-steps-requires
     cast-result
     mul-result
-    count-requires
+    step-count-requires
     cast-result-2
     mul-result-2
     add-result

@@ -7,24 +7,12 @@ use borrow.Author.Needs.{needs}
 use Rattle.chip.proofs.LargeChip.region_bytes.Statement.{statement}
 use Rattle.chip.proofs.LargeChip.region_bytes.Tie as tie
 
-cast-result : tie.Need-cast-result
-cast-result c = search needs
-
-add-result : tie.Need-add-result
-add-result c = search needs
-
-cast-result-2 : tie.Need-cast-result-2
-cast-result-2 c = search needs
+region-pages-requires : tie.Need-region-pages-requires
+region-pages-requires c κs = search needs
 
 mul-result : tie.Need-mul-result
 mul-result c =
-    let chip = c .before .before .args .self in
-    let few = mul-le-mul-right {m = chip .region} {n = 255} (pagesOf chip) (omega arith) in
-    omega arith
-
-mul-result-2 : tie.Need-mul-result-2
-mul-result-2 c =
-    let chip = c .before .before .args .self in
+    let chip = c .before .args .self in
     let few = mul-le-mul-right {m = chip .region} {n = 255} (pagesOf chip) (omega arith) in
     omega arith
 
@@ -32,5 +20,4 @@ returns : tie.Need-returns
 returns c = search needs
 
 pub region-bytes-spec : {M : Type 1} → statement M
-region-bytes-spec =
-    tie.close (tie.spec cast-result add-result cast-result-2 mul-result mul-result-2 returns)
+region-bytes-spec = tie.close (tie.spec region-pages-requires mul-result returns)

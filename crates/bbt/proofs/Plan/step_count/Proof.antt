@@ -1,10 +1,10 @@
--- `Plan::count` meets its contract: a copy has P + 1 steps.
+-- `Plan::step_count` meets its contract: a copy has P + 1 steps.
 -- Assumes nothing.
 use mathlib.Core.Path.{_∙_, ap, sym}
 use Rattle.bbt.proofs.ToldSteps.{countBy, count-by}
 use borrow.Author.Needs.{needs}
-use Rattle.bbt.proofs.Plan.count.Statement.{statement}
-use Rattle.bbt.proofs.Plan.count.Tie as tie
+use Rattle.bbt.proofs.Plan.step_count.Statement.{statement}
+use Rattle.bbt.proofs.Plan.step_count.Tie as tie
 
 cast-p : tie.Need-cast-p
 cast-p c = search needs
@@ -36,8 +36,8 @@ returns-2 c = let a = c .before .before .before .args .self in sym (count-by (a 
 returns-3 : tie.Need-returns-3
 returns-3 c = let a = c .before .before .before .args .self in sym (count-by (a .pages) (a .shape) ∙ ap (countBy (a .pages)) (c .enum-told3 .given .1))
 
-pub count-spec : {M : Type 1} → statement M
-count-spec =
+pub step-count-spec : {M : Type 1} → statement M
+step-count-spec =
     tie.close
     (tie.spec
     cast-p

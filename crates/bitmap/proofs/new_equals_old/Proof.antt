@@ -1,4 +1,4 @@
--- `keeps_old` meets its contract: at each turn what is asked of the whole is asked of what is left.
+-- `new_equals_old` meets its contract: at each turn what is asked of the whole is asked of what is left.
 -- Assumes nothing.
 use mathlib.Core.Path.{_≡_, refl, sym, _∙_}
 use Prim.Native.Nat.{_+_, _≤_, _-_}
@@ -9,19 +9,19 @@ use lib.ListN.{length, drop, length-take, length-drop}
 use Rattle.bits.proofs.Gathering.{part-turn, part-end}
 use Rattle.bbt.specs.Entries.{updatedByte, updatedBytes}
 use Rattle.bbt.specs.Pairs.{same}
-use Rattle.bitmap.specs.Made.{keeps}
-use Rattle.bitmap.proofs.Rule.{keeps-short}
-use Rattle.bitmap.proofs.keeps_old.Statement.{statement}
-use Rattle.bitmap.proofs.keeps_old.Tie as tie
+use Rattle.bitmap.specs.Made.{newEqualsOld}
+use Rattle.bitmap.proofs.Rule.{equal-short}
+use Rattle.bitmap.proofs.new_equals_old.Statement.{statement}
+use Rattle.bitmap.proofs.new_equals_old.Tie as tie
 
 abbrev Inv-loop : tie.InvT-loop
-Inv-loop old wanted n kept₀ kept = (keeps old wanted ≡ keeps (drop kept old) (drop kept wanted)) × (kept ≤ length old)
+Inv-loop old wanted n kept₀ kept = (newEqualsOld old wanted ≡ newEqualsOld (drop kept old) (drop kept wanted)) × (kept ≤ length old)
 
 abbrev μ-loop : tie.MeasureT-loop
 μ-loop old wanted n kept₀ kept = length old - kept
 
 returns : tie.Need-returns Inv-loop μ-loop
-returns c = sym (keeps-short (c .before .before .before .args .old .now) (c .before .before .before .args .wanted .now) (c .if1 .taken))
+returns c = sym (equal-short (c .before .before .before .args .old .now) (c .before .before .before .args .wanted .now) (c .if1 .taken))
 
 loop-holds : tie.Need-loop-holds Inv-loop μ-loop
 loop-holds c = (refl, omega arith)
@@ -54,25 +54,25 @@ changes-requires : tie.Need-changes-requires Inv-loop μ-loop
 changes-requires c κs = simp (length-take, length-drop) (omega arith)
 
 returns-2 : tie.Need-returns-2 Inv-loop μ-loop
-unfolding keeps updatedBytes same
+unfolding newEqualsOld updatedBytes same
 returns-2 c =
     let old = c .before .before .before .before .before .before .before .before .before .args .old .now in
     let wanted = c .before .before .before .before .before .before .before .before .before .args .wanted .now in
     let kept = c .before .before .before .before .before .loop .kept in
     let result = c .before .changes .result in
-    sym (part-turn keeps (λ o w. eqb (updatedByte o w) o) refl (λ u x v y. refl) old wanted kept (kept + 256) (omega arith) (omega arith) (omega arith) (eqb result 0) (c .before .changes .ensures) (c .before .before .before .before .before .loop .inv .0) ∙ rw (ne-eqb result 0 (c .if2 .taken)))
+    sym (part-turn newEqualsOld (λ o w. eqb (updatedByte o w) o) refl (λ u x v y. refl) old wanted kept (kept + 256) (omega arith) (omega arith) (omega arith) (eqb result 0) (c .before .changes .ensures) (c .before .before .before .before .before .loop .inv .0) ∙ rw (ne-eqb result 0 (c .if2 .taken)))
 
 loop-less : tie.Need-loop-less Inv-loop μ-loop
 loop-less c = omega arith
 
 loop-again : tie.Need-loop-again Inv-loop μ-loop
-unfolding keeps updatedBytes same
+unfolding newEqualsOld updatedBytes same
 loop-again c =
     let old = c .before .before .before .before .before .before .before .before .before .args .old .now in
     let wanted = c .before .before .before .before .before .before .before .before .before .args .wanted .now in
     let kept = c .before .before .before .before .before .loop .kept in
     let result = c .before .changes .result in
-    (part-turn keeps (λ o w. eqb (updatedByte o w) o) refl (λ u x v y. refl) old wanted kept (kept + 256) (omega arith) (omega arith) (omega arith) (eqb result 0) (c .before .changes .ensures) (c .before .before .before .before .before .loop .inv .0) ∙ rw (eq-eqb result 0 (c .if2 .left)), omega arith)
+    (part-turn newEqualsOld (λ o w. eqb (updatedByte o w) o) refl (λ u x v y. refl) old wanted kept (kept + 256) (omega arith) (omega arith) (omega arith) (eqb result 0) (c .before .changes .ensures) (c .before .before .before .before .before .loop .inv .0) ∙ rw (eq-eqb result 0 (c .if2 .left)), omega arith)
 
 sub-changes-3 : tie.Need-sub-changes-3 Inv-loop μ-loop
 sub-changes-3 c = omega arith
@@ -96,16 +96,16 @@ changes-requires-2 : tie.Need-changes-requires-2 Inv-loop μ-loop
 changes-requires-2 c κs = simp (length-take, length-drop) (omega arith)
 
 returns-3 : tie.Need-returns-3 Inv-loop μ-loop
-unfolding keeps updatedBytes same
+unfolding newEqualsOld updatedBytes same
 returns-3 c =
     let old = c .before .before .before .before .before .before .before .before .args .old .now in
     let wanted = c .before .before .before .before .before .before .before .before .args .wanted .now in
     let kept = c .before .before .before .before .loop .kept in
     let result = c .changes2 .result in
-    part-end keeps (λ o w. eqb (updatedByte o w) o) refl (λ u x v y. refl) old wanted kept (omega arith) (omega arith) refl (eqb result 0) (c .changes2 .ensures) (c .before .before .before .before .loop .inv .0)
+    part-end newEqualsOld (λ o w. eqb (updatedByte o w) o) refl (λ u x v y. refl) old wanted kept (omega arith) (omega arith) refl (eqb result 0) (c .changes2 .ensures) (c .before .before .before .before .loop .inv .0)
 
-pub keeps-old-spec : {M : Type 1} → statement M
-keeps-old-spec =
+pub new-equals-old-spec : {M : Type 1} → statement M
+new-equals-old-spec =
     tie.close
     (tie.spec
     Inv-loop

@@ -1,4 +1,4 @@
--- The update rule goes part by part: it keeps a bitmap where it keeps each page's part.
+-- The update rule goes part by part: it newEqualsOld a bitmap where it newEqualsOld each page's part.
 -- Assumes nothing.
 use mathlib.Core.Bool.{_&&_}
 use mathlib.Core.List.{List, [], _∷_, _++_}
@@ -13,7 +13,7 @@ use Rattle.bbt.specs.Entries.{updatedByte, updatedBytes}
 use Rattle.bbt.specs.Images.{chunk}
 use Rattle.bbt.specs.Pairs.{same}
 use Rattle.bbt.specs.Stored.{storedParts}
-use Rattle.bitmap.specs.Made.{keeps}
+use Rattle.bitmap.specs.Made.{newEqualsOld}
 use Rattle.chip.specs.Large.{bitmapBytes, pagesOf}
 use Rattle.chip.specs.declared.LargeChip.{LargeChip}
 use Rattle.region.proofs.Bitmaps.{part-whole, stored-long}
@@ -33,20 +33,20 @@ updated-length [] (w ∷ u) e = absurd (omega arith)
 updated-length (o ∷ a) [] e = absurd (omega arith)
 updated-length (o ∷ a) (w ∷ u) e = ap suc (updated-length a u (omega arith))
 
-keeps-append : (a b u v : List ℕ) → length a ≡ length u → keeps (a ++ b) (u ++ v) ≡ (keeps a u && keeps b v)
-unfolding keeps
-keeps-append a b u v e =
+equal-append : (a b u v : List ℕ) → length a ≡ length u → newEqualsOld (a ++ b) (u ++ v) ≡ (newEqualsOld a u && newEqualsOld b v)
+unfolding newEqualsOld
+equal-append a b u v e =
     ap (λ (l : List ℕ). same l (a ++ b)) (updated-append a b u v e) ∙ same-append (updatedBytes a u) (updatedBytes b v) a b (updated-length a u e)
 
 -- one page more
-pub keeps-next : (chip : LargeChip) (image : List ℕ) → chip .region * pagesOf chip * 2112 ≤ length image → (b p : ℕ) → b < chip .region → p < pagesOf chip
+pub equal-next : (chip : LargeChip) (image : List ℕ) → chip .region * pagesOf chip * 2112 ≤ length image → (b p : ℕ) → b < chip .region → p < pagesOf chip
     → (wanted : List ℕ) → length wanted ≡ bitmapBytes chip
-    → keeps (storedParts chip image b (p + 1)) (take (2048 * (p + 1)) wanted)
-    ≡ (keeps (storedParts chip image b p) (take (2048 * p) wanted) && keeps (partOf chip image b p) (chunk p wanted))
+    → newEqualsOld (storedParts chip image b (p + 1)) (take (2048 * (p + 1)) wanted)
+    ≡ (newEqualsOld (storedParts chip image b p) (take (2048 * p) wanted) && newEqualsOld (partOf chip image b p) (chunk p wanted))
 unfolding chunk
-keeps-next chip image room b p hb hp wanted hw =
+equal-next chip image room b p hb hp wanted hw =
     let next : 2048 * (p + 1) ≡ 2048 * p + 2048 = omega arith in
-    ap₂ keeps (stored-parts-next chip image b p ∙ ap (λ (x : List ℕ). storedParts chip image b p ++ x) (sym (part-whole chip image room b p hb hp)))
+    ap₂ newEqualsOld (stored-parts-next chip image b p ∙ ap (λ (x : List ℕ). storedParts chip image b p ++ x) (sym (part-whole chip image room b p hb hp)))
     (ap (λ (k : ℕ). take k wanted) next ∙ take-add (2048 * p) 2048 wanted)
-    ∙ keeps-append (storedParts chip image b p) (partOf chip image b p) (take (2048 * p) wanted) (chunk p wanted)
+    ∙ equal-append (storedParts chip image b p) (partOf chip image b p) (take (2048 * p) wanted) (chunk p wanted)
     (stored-long chip image room b p hb (omega arith) ∙ simp length-take (omega arith))
