@@ -1,88 +1,102 @@
-# Reamsickle: the static library and the C programs over it. Needed: the Rattle toolchain (rt), a C compiler
-# and make. All that is built stands under target/.
+# Reamsickle: the static library and the C programs over it. Needed are the Rattle toolchain (rt), a C compiler and
+# make. All that is built stands under target/.
 #
-#   make            the library and the host programs
-#   make run        the tool's simulation of an update, power cuts and recoveries, with a picture
-#   make example    the example, host/example.c
-#   make test       the gate: all proofs and all tests (.ci/run)
-#   make host-test  the host test, a fixed run of the power-cut simulator and the tool's test, plain and built with
-#                   sanitizers
-#   make soak       the power-cut simulator until it is interrupted; SEED=1 HISTORIES=100000 runs so many
-#   make bench      the time of each entry beside the reference's, and of a half's code beside other C
-#   make install-test, make replay
-#                   an installation under target/ is tried from C and C++; the inputs of fuzz/corpus are compared.
-#                   Both are part of make host-test
-#   make install    the library, its header and its pkg-config file, and the tool with its manual where this tree
-#                   has them, into PREFIX=/usr/local; DESTDIR= stages them elsewhere
-#   make uninstall  removes them again
-#   make fuzz       all entries under libFuzzer, for FUZZ_TIME=60 seconds; not part of the gate
-#   make corpus     writes the inputs that fuzzing starts from, fuzz/corpus, anew
-#   make valgrind   the example, the inputs of fuzz/corpus, the simulator and the host test under valgrind; not
-#                   part of the gate. make valgrind-short leaves out the host test, which is long
-#   make clean      removes target/
+#   make                the library and the host programs
+#   make run            the tool's simulation of updates, power cuts and recoveries, with a picture
+#   make example        a driver in small, host/example
+#   make test           the gate: all proofs and all tests (.ci/run)
+#   make host-test      the gate's C part: the four tests below and the host test, plain and with sanitizers
+#   make cuts-test      a fixed run of the power-cut simulator
+#   make tool-test      the tool's own test
+#   make install-test   an installation under target/, tried from C and C++
+#   make replay         the inputs of fuzz/corpus, compared
+#   make soak           the power-cut simulator, until it is interrupted
+#   make bench          the time of each entry beside the reference's, and of a half's code beside other C
+#   make fuzz           all entries under libFuzzer; not part of the gate
+#   make corpus         writes fuzz/corpus anew, the inputs that fuzzing starts from
+#   make valgrind       the example, the corpus, the simulator and the host test under valgrind; not part of the gate
+#   make install        the library with its header and pkg-config file, and the tool with its manual
+#   make uninstall      removes them again
+#   make clean          removes target/
+#   make help           prints this
+#
+# Variables, as they are where nothing else is given:
+#
+#   CC=cc CXX=g++ CFLAGS=-O2       the compilers, and the flags of the host programs
+#   PREFIX=/usr/local DESTDIR=     of install and uninstall: where to; DESTDIR stages it elsewhere
+#   SEED=(the time) HISTORIES=0    of soak: the first history's seed, and how many; 0 goes on until it is interrupted
+#   FUZZ_CC=clang FUZZ_TIME=60     of fuzz: the compiler, and for how many seconds
+#   VALGRIND_HISTORIES=200         of valgrind: how many histories the simulator runs
 
 CC ?= cc
 CFLAGS ?= -O2
 WARNINGS := -std=c99 -Wall -Wextra -pedantic
 SANITIZE := -g -fsanitize=address,undefined -fno-sanitize-recover=all
+FOLDERS := -Iinclude -Ihost/common -Ihost/reference
 
 library := target/staticlib/libreamsickle.a
 host := target/host
-programs := $(host)/ream $(host)/ream_sanitized $(host)/example $(host)/host_test $(host)/host_test_sanitized \
-	$(host)/histories $(host)/histories_sanitized $(host)/bench
-headers := $(wildcard include/*.h host/*.h host/ream/*.h)
-reference := host/reference.c host/reference_large.c
-test_sources := host/host_test.c host/test_small.c host/test_large.c host/scenes.c host/lengths.c \
-	host/calls.c host/lent.c host/drawn.c host/region.c $(reference)
-history_sources := host/histories.c host/history.c host/checker.c host/driver.c host/rig.c host/tally.c \
-	host/lent.c host/drawn.c host/region.c $(reference)
-ream_sources := $(wildcard host/ream/*.c) host/checker.c host/rig.c host/drawn.c host/region.c \
-	host/reference_large.c
-bench_sources := host/bench.c host/region.c $(reference)
+programs := example host_test histories bench ream
 
-compile = $(CC) $(WARNINGS) $(CFLAGS) -Iinclude
-
-# The code of a half in fast C, for the benchmark.
-bench_sources += host/yardstick.c
-
-# What `make soak` runs. 0 histories go on until they are interrupted.
-SEED ?= $(shell date +%s%N)
-HISTORIES ?= 0
-
-.PHONY: all run example test host-test soak bench clean
 .DELETE_ON_ERROR:
 
-all: $(library) $(programs)
+.PHONY: all help clean
+
+all: $(library) $(programs:%=$(host)/%) $(host)/host_test_sanitized $(host)/histories_sanitized $(host)/ream_sanitized
 
 $(library): $(shell find crates crates.txt -type f 2>/dev/null)
 	rt staticlib reamsickle
 
-$(host):
-	mkdir -p $@
+help:
+	@sed -n -e '/^#/!q' -e 's/^# \{0,1\}//p' $(firstword $(MAKEFILE_LIST))
 
-$(host)/ream: $(ream_sources) $(headers) $(library) | $(host)
-	$(compile) -Ihost -o $@ $(ream_sources) $(library)
+clean:
+	rm -rf target
 
-$(host)/ream_sanitized: $(ream_sources) $(headers) $(library) | $(host)
-	$(compile) -Ihost $(SANITIZE) -o $@ $(ream_sources) $(library)
+# ---- the host programs
 
-$(host)/example: host/example.c $(headers) $(library) | $(host)
-	$(compile) -o $@ host/example.c $(library)
+# A program is the C files of one folder, and what it needs of host/common and host/reference. It is built plain, and
+# with sanitizers under the name PROGRAM_sanitized. $(call objects,FLAVOUR,SOURCES), $(call flavour,FLAVOUR,FLAGS) and
+# $(call program,NAME,SOURCES) make the rules.
+headers := $(wildcard include/*.h host/*/*.h fuzz/*.h)
+shared := $(wildcard host/common/*.c host/reference/*.c)
 
-$(host)/host_test: $(test_sources) $(headers) $(library) | $(host)
-	$(compile) -o $@ $(test_sources) $(library)
+objects = $(2:%.c=$(host)/$(1)/%.o)
 
-$(host)/host_test_sanitized: $(test_sources) $(headers) $(library) | $(host)
-	$(compile) $(SANITIZE) -o $@ $(test_sources) $(library)
+define flavour
+$(host)/$(1)/%.o: %.c $(headers)
+	@mkdir -p $$(@D)
+	$(CC) $(WARNINGS) $(CFLAGS) $(2) $(FOLDERS) -c -o $$@ $$<
 
-$(host)/histories: $(history_sources) $(headers) $(library) | $(host)
-	$(compile) -o $@ $(history_sources) $(library)
+$(host)/$(1)/shared.a: $(call objects,$(1),$(shared))
+	rm -f $$@
+	$(AR) rcs $$@ $$^
+endef
 
-$(host)/histories_sanitized: $(history_sources) $(headers) $(library) | $(host)
-	$(compile) $(SANITIZE) -o $@ $(history_sources) $(library)
+define program
+$(host)/$(1): $(call objects,plain,$(2)) $(host)/plain/shared.a $(library)
+	$(CC) $(CFLAGS) -o $$@ $$^
 
-$(host)/bench: $(bench_sources) $(headers) $(library) | $(host)
-	$(compile) -o $@ $(bench_sources) $(library)
+$(host)/$(1)_sanitized: $(call objects,sanitized,$(2)) $(host)/sanitized/shared.a $(library)
+	$(CC) $(CFLAGS) $(SANITIZE) -o $$@ $$^
+endef
+
+$(eval $(call flavour,plain,))
+$(eval $(call flavour,sanitized,$(SANITIZE)))
+$(eval $(call program,example,$(wildcard host/example/*.c)))
+$(eval $(call program,host_test,$(wildcard host/test/*.c)))
+$(eval $(call program,histories,$(wildcard host/simulator/*.c)))
+$(eval $(call program,bench,$(wildcard host/bench/*.c)))
+$(eval $(call program,ream,$(wildcard host/ream/*.c)))
+$(eval $(call program,replay,$(wildcard fuzz/*.c)))
+
+# ---- running and testing
+
+# What `make soak` runs.
+SEED ?= $(shell date +%s%N)
+HISTORIES ?= 0
+
+.PHONY: run example soak bench test host-test cuts-test tool-test replay
 
 run: $(host)/ream
 	$(host)/ream simulate --seed 645 --events 13 --svg $(host)/simulation.svg --force
@@ -90,26 +104,30 @@ run: $(host)/ream
 example: $(host)/example
 	$(host)/example
 
-test:
-	.ci/run
-
-host-test: $(host)/host_test $(host)/host_test_sanitized $(host)/histories $(host)/histories_sanitized \
-		$(host)/ream $(host)/ream_sanitized
-	$(host)/host_test
-	$(host)/host_test_sanitized
-	$(host)/histories
-	$(host)/histories_sanitized
-	host/test_ream.sh $(host)/ream
-	host/test_ream.sh $(host)/ream_sanitized
-
 soak: $(host)/histories
-	$(host)/histories $(SEED) $(HISTORIES)
+	@$(host)/histories $(SEED) $(HISTORIES)
 
 bench: $(host)/bench
 	$(host)/bench
 
-clean:
-	rm -rf target
+test:
+	.ci/run
+
+host-test: $(host)/host_test $(host)/host_test_sanitized cuts-test tool-test install-test replay
+	$(host)/host_test
+	$(host)/host_test_sanitized
+
+cuts-test: $(host)/histories $(host)/histories_sanitized
+	$(host)/histories
+	$(host)/histories_sanitized
+
+tool-test: $(host)/ream $(host)/ream_sanitized
+	host/test_ream.sh $(host)/ream
+	host/test_ream.sh $(host)/ream_sanitized
+
+# The inputs of the fuzzed target, without libFuzzer.
+replay: $(host)/replay
+	$(host)/replay fuzz/corpus/*
 
 # ---- installing
 
@@ -179,12 +197,10 @@ install-test: $(library) $(tool) $(manual)
 	else \
 		echo 'install-test: there is no C++ compiler, so C++ is not tried'; \
 	fi
-	$(CC) $(WARNINGS) -o $(trials)/example host/example.c $(trial_flags)
+	$(CC) $(WARNINGS) -o $(trials)/example host/example/example.c $(trial_flags)
 	$(trials)/example > $(trials)/example.out
 	$(staged_make) uninstall
 	test -z "$$(find $(staged) -type f)"
-
-host-test: install-test
 
 # ---- fuzzing
 
@@ -194,20 +210,18 @@ FUZZ_TIME ?= 60
 FUZZ_SANITIZE := -g -fsanitize=fuzzer,address,undefined -fno-sanitize-recover=all
 
 fuzz := target/fuzz
-fuzz_headers := $(wildcard fuzz/*.h)
-fuzz_sources := fuzz/fuzz_entries.c fuzz/input.c fuzz/build.c fuzz/fence.c host/calls.c host/lent.c host/drawn.c \
-	host/region.c $(reference)
+fuzz_sources := $(filter-out fuzz/replay.c,$(wildcard fuzz/*.c)) $(shared)
 
-.PHONY: fuzz corpus replay
+.PHONY: fuzz corpus
 
 $(fuzz)/found:
 	mkdir -p $@
 
-$(fuzz)/fuzz_entries: $(fuzz_sources) $(headers) $(fuzz_headers) $(library) | $(fuzz)/found
+$(fuzz)/fuzz_entries: $(fuzz_sources) $(headers) $(library) | $(fuzz)/found
 	@echo 'int LLVMFuzzerTestOneInput(const char *d, long n) { return d && n < 0; }' | \
 		$(FUZZ_CC) -fsanitize=fuzzer,address,undefined -x c - -o $(fuzz)/probe || { \
 		echo 'make fuzz needs clang with libFuzzer; on Debian: apt-get install clang libclang-rt-14-dev'; exit 1; }
-	$(FUZZ_CC) $(WARNINGS) $(CFLAGS) $(FUZZ_SANITIZE) -Iinclude -o $@ $(fuzz_sources) $(library)
+	$(FUZZ_CC) $(WARNINGS) $(CFLAGS) $(FUZZ_SANITIZE) $(FOLDERS) -o $@ $(fuzz_sources) $(library)
 
 fuzz: $(fuzz)/fuzz_entries
 	$(fuzz)/fuzz_entries -max_total_time=$(FUZZ_TIME) -max_len=512 -print_final_stats=1 \
@@ -216,15 +230,6 @@ fuzz: $(fuzz)/fuzz_entries
 corpus:
 	rm -rf fuzz/corpus
 	fuzz/make-corpus fuzz/corpus
-
-# The corpus without libFuzzer.
-$(host)/replay: fuzz/replay.c $(fuzz_sources) $(headers) $(fuzz_headers) $(library) | $(host)
-	$(compile) -o $@ fuzz/replay.c $(fuzz_sources) $(library)
-
-replay: $(host)/replay
-	$(host)/replay fuzz/corpus/*
-
-host-test: replay
 
 # ---- valgrind
 

@@ -25,8 +25,8 @@
 #include <stdlib.h>
 #include <string.h>
 
-#include "../host/calls.h"
-#include "../host/reference.h"
+#include "calls.h"
+#include "reference.h"
 #include "build.h"
 #include "fence.h"
 #include "input.h"
