@@ -117,9 +117,11 @@ host-test: $(host)/host_test $(host)/host_test_sanitized cuts-test tool-test ins
 	$(host)/host_test
 	$(host)/host_test_sanitized
 
+# The last run is interrupted: it ends well, with what it counted.
 cuts-test: $(host)/histories $(host)/histories_sanitized
 	$(host)/histories
 	$(host)/histories_sanitized
+	timeout --preserve-status -s INT 1 $(host)/histories 1 0 | tail -n 1
 
 tool-test: $(host)/ream $(host)/ream_sanitized
 	host/test_ream.sh $(host)/ream
@@ -135,72 +137,38 @@ VERSION := $(shell sed -n 's/^\#define REAM_LIBRARY_VERSION "\(.*\)"/\1/p' inclu
 PREFIX ?= /usr/local
 DESTDIR ?=
 
-# The tool ream and its manual, where this tree has them.
-tool := $(if $(wildcard host/ream),$(host)/ream)
-manual := $(wildcard man/ream.1)
-
-installed_header := $(DESTDIR)$(PREFIX)/include/reamsickle.h
-installed_library := $(DESTDIR)$(PREFIX)/lib/libreamsickle.a
-installed_pc := $(DESTDIR)$(PREFIX)/lib/pkgconfig/reamsickle.pc
-installed_tool := $(DESTDIR)$(PREFIX)/bin/ream
-installed_manual := $(DESTDIR)$(PREFIX)/share/man/man1/ream.1
+# A prefix that does not start with / is meant from here. It may have spaces, but none of the characters that mean
+# something else in a shell or in a pkg-config file.
+prefix = $(if $(filter-out /%,$(firstword $(PREFIX))),$(CURDIR)/)$(PREFIX)
+root = $(DESTDIR)$(prefix)
+odd := ' " \ ` | & \#
+refuse_odd = $(foreach c,$(odd),$(if $(findstring $(c),$(root)),$(error PREFIX or DESTDIR has a $(c) in it: $(root))))
 
 .PHONY: install uninstall install-test
 
-install: $(library) $(tool) $(manual)
-	install -d $(dir $(installed_header) $(installed_pc))
-	install -m 644 include/reamsickle.h $(installed_header)
-	install -m 644 $(library) $(installed_library)
-	sed -e 's|@PREFIX@|$(PREFIX)|' -e 's|@VERSION@|$(VERSION)|' reamsickle.pc.in > $(installed_pc)
-	chmod 644 $(installed_pc)
-	$(if $(tool),install -D -m 755 $(tool) $(installed_tool))
-	$(if $(manual),install -D -m 644 $(manual) $(installed_manual))
+install: $(library) $(host)/ream
+	$(refuse_odd)install -d '$(root)/include' '$(root)/lib/pkgconfig' '$(root)/bin' '$(root)/share/man/man1'
+	install -m 644 include/reamsickle.h '$(root)/include/reamsickle.h'
+	install -m 644 $(library) '$(root)/lib/libreamsickle.a'
+	sed -e 's|@PREFIX@|$(prefix)|' -e 's|@VERSION@|$(VERSION)|' reamsickle.pc.in > target/reamsickle.pc
+	install -m 644 target/reamsickle.pc '$(root)/lib/pkgconfig/reamsickle.pc'
+	install -m 755 $(host)/ream '$(root)/bin/ream'
+	install -m 644 man/ream.1 '$(root)/share/man/man1/ream.1'
 
 uninstall:
-	rm -f $(installed_header) $(installed_library) $(installed_pc) $(installed_tool) $(installed_manual)
+	$(refuse_odd)rm -f '$(root)/include/reamsickle.h' '$(root)/lib/libreamsickle.a' \
+		'$(root)/lib/pkgconfig/reamsickle.pc' '$(root)/bin/ream' '$(root)/share/man/man1/ream.1'
 
-# What is installed serves C and C++ programs: the header stands alone and gives no warning, and programs are
-# built with the flags of the pkg-config file, which are read from the file itself where pkg-config is missing.
-staged := target/installed
-staged_pc := $(staged)/lib/pkgconfig/reamsickle.pc
-staged_make = $(MAKE) --no-print-directory -s PREFIX=$(CURDIR)/$(staged) DESTDIR=
-trials := target/install-test
-trial_flags = $$(cat $(trials)/flags)
-strict := -Wall -Wextra -pedantic -Werror -Wconversion -Wsign-conversion -Wshadow
+# Under an ordinary prefix, one with a space, one that is relative, and staged.
+install-test: $(library) $(host)/ream
+	rm -rf target/install-test
+	host/test/test_install.sh '$(CURDIR)/target/install-test/plain'
+	host/test/test_install.sh '$(CURDIR)/target/install-test/with a space'
+	host/test/test_install.sh target/install-test/relative
+	host/test/test_install.sh /usr/local '$(CURDIR)/target/install-test/staged'
 
-define small_program
-#include <reamsickle.h>
-int main(void)
-{
-	return ream_refusal(ream_half_code_checked(NULL, 0, NULL, 0)) == REAM_LENGTH ? 0 : 1;
-}
-endef
-
-install-test: $(library) $(tool) $(manual)
-	rm -rf $(staged) $(trials)
-	mkdir -p $(trials)
-	$(file >target/small_program,$(small_program))
-	$(staged_make) install
-	if command -v pkg-config; then \
-		pkg-config --cflags --libs $(staged_pc) > $(trials)/flags; \
-	else \
-		sed -n -e 's|$${includedir}|$(staged)/include|' -e 's|$${libdir}|$(staged)/lib|' \
-			-e 's/^Cflags: //p' -e 's/^Libs: //p' $(staged_pc) > $(trials)/flags; \
-	fi
-	echo '#include <reamsickle.h>' | $(CC) -std=c99 $(strict) -fsyntax-only -x c - $(trial_flags)
-	$(CC) -std=c99 $(strict) -o $(trials)/small_c -x c target/small_program $(trial_flags)
-	$(trials)/small_c
-	if command -v $(CXX); then \
-		echo '#include <reamsickle.h>' | $(CXX) -std=c++17 $(strict) -fsyntax-only -x c++ - $(trial_flags) && \
-		$(CXX) -std=c++17 $(strict) -o $(trials)/small_cxx -x c++ target/small_program $(trial_flags) && \
-		$(trials)/small_cxx; \
-	else \
-		echo 'install-test: there is no C++ compiler, so C++ is not tried'; \
-	fi
-	$(CC) $(WARNINGS) -o $(trials)/example host/example/example.c $(trial_flags)
-	$(trials)/example > $(trials)/example.out
-	$(staged_make) uninstall
-	test -z "$$(find $(staged) -type f)"
+install-test: export CC := $(CC)
+install-test: export CXX := $(CXX)
 
 # ---- fuzzing
 
