@@ -121,7 +121,8 @@ host-test: $(host)/host_test $(host)/host_test_sanitized cuts-test tool-test ins
 cuts-test: $(host)/histories $(host)/histories_sanitized
 	$(host)/histories
 	$(host)/histories_sanitized
-	timeout --preserve-status -s INT 1 $(host)/histories 1 0 | tail -n 1
+	timeout --preserve-status -s INT 1 $(host)/histories 1 0 > $(host)/interrupted.txt
+	tail -n 1 $(host)/interrupted.txt | grep interrupted
 
 tool-test: $(host)/ream $(host)/ream_sanitized
 	host/test_ream.sh $(host)/ream
