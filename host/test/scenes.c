@@ -6,6 +6,23 @@
 #include "draw.h"
 #include "reamsickle.h"
 
+const uint64_t sizes[SIZES] = {
+	8, 12, 16, 1024, 8188, 8192, 8196, 16384, 16388, 20000, 24576, 24580, 32760, 32764, 32768,
+};
+
+const uint64_t no_sizes[NO_SIZES] = {
+	0, 1, 2, 3, 4, 5, 6, 7, 9, 10, 11, 13, 14, 15, 8190, 8191, 8193, 8194, 32765, 32766, 32767, 32769, 32770,
+	32771, 32772, 32776, 65536, 65544, 131072, UINT32_MAX, ((uint64_t)1 << 32) + 8, ((uint64_t)1 << 32) + 32768,
+	((uint64_t)1 << 34) + 8, ((uint64_t)1 << 48) + 8, ((uint64_t)1 << 62) + 8, ((uint64_t)1 << 63) + 8,
+	UINT64_MAX - 7, UINT64_MAX - 3, UINT64_MAX,
+};
+
+const uint64_t size_by_pages[MOST_PAGES] = { 8, 8196, 24576, 32764 };
+
+const enum entry_index region_entries[REGION_ENTRIES] = {
+	TABLE_READ, UPDATE_PLAN, RECOVERY_PLAN, UPDATE_PAGE, RECOVERY_PAGE,
+};
+
 /* ---- casts */
 
 struct cast cast_settled(uint64_t n, unsigned primary, unsigned mirror, uint8_t version)
@@ -14,6 +31,59 @@ struct cast cast_settled(uint64_t n, unsigned primary, unsigned mirror, uint8_t 
 
 	cast.role[primary] = GOOD_PRIMARY;
 	cast.role[mirror] = GOOD_MIRROR;
+	return cast;
+}
+
+struct cast cast_placed(uint64_t n, unsigned i, uint8_t version)
+{
+	const unsigned primary = i / 3, mirror = i % 3;
+
+	return cast_settled(n, primary, mirror < primary ? mirror : mirror + 1, version);
+}
+
+struct cast cast_troubled(uint64_t n, unsigned trouble)
+{
+	struct cast cast = cast_settled(n, 3, 1, 40);
+
+	switch (trouble) {
+	case 1:		/* 8: two of a kind */
+		cast.role[0] = GOOD_MIRROR;
+		break;
+	case 2:		/* 8: two of a kind and none of the other */
+		cast.role[1] = GOOD_PRIMARY;
+		break;
+	case 3:		/* 8, although one of the two stands opposite to the other kind */
+		cast.role[0] = GOOD_PRIMARY;
+		cast.version[PRIMARY] += 128;
+		break;
+	case 4:		/* 7 */
+		cast.role[3] = cast.role[1] = MARKED;
+		break;
+	case 5:		/* 9 */
+		cast.version[PRIMARY] += 128;
+		cast.equal = false;
+		break;
+	case 6:		/* 10 in reading, a merge in recovery */
+		cast.equal = false;
+		break;
+	case 7:		/* 10 in reading, 11 in recovery */
+		cast.role[0] = cast.role[1] = cast.role[2] = MARKED;
+		break;
+	case 8:		/* 10 in reading, and in recovery a copy made anew: of the newer primary, .. */
+		cast.version[PRIMARY] += 127;
+		cast.equal = false;
+		break;
+	case 9:		/* .. the newer mirror, .. */
+		cast.version[MIRROR] += 127;
+		cast.equal = false;
+		break;
+	case 10:	/* .. the primary alone .. */
+		cast.role[1] = BLANK;
+		break;
+	case 11:	/* .. or the mirror alone */
+		cast.role[3] = MARKED;
+		break;
+	}
 	return cast;
 }
 
@@ -145,14 +215,9 @@ void scene_stir(struct test *test, struct scene *scene)
 
 /* ---- calls */
 
-bool takes_wanted(enum entry_index index)
-{
-	return index == UPDATE_PLAN || index == UPDATE_PAGE;
-}
-
 bool gives_page(enum entry_index index)
 {
-	return index == UPDATE_PAGE || index == RECOVERY_PAGE;
+	return has_number(index, "step");
 }
 
 void scene_set_up(struct test *test, enum entry_index index, const void *inputs)
@@ -161,16 +226,11 @@ void scene_set_up(struct test *test, enum entry_index index, const void *inputs)
 	const struct region *region = &scene->region;
 
 	call_begin_large(test, index, region->n);
-	if (index == FIRST_BITMAP) {
-		call_lend(test, 0, scene->marks, (size_t)region->n);
-		return;
-	}
-	call_lend(test, 0, region->image, region_image_len(region));
-	call_lend(test, 1, region->status, region_status_len(region));
-	if (takes_wanted(index))
-		call_lend(test, 2, scene->wanted, (size_t)region->n / 4);
-	if (gives_page(index))
-		test->call.number[1] = scene->step;
+	call_lend_named(test, "marks", scene->marks, (size_t)region->n);
+	call_lend_named(test, "image", region->image, region_image_len(region));
+	call_lend_named(test, "status", region->status, region_status_len(region));
+	call_lend_named(test, "wanted", scene->wanted, (size_t)region->n / 4);
+	call_set_named(test, "step", scene->step);
 }
 
 uint64_t scene_call(struct test *test, enum entry_index index, const struct scene *scene)

@@ -39,6 +39,30 @@ struct cast {
 	enum way way;		/* and how */
 };
 
+/* Numbers of blocks at which something changes: the ends of the range, and P from 1 to 4. */
+enum { SIZES = 15 };
+
+extern const uint64_t sizes[SIZES];
+
+/* Numbers that are no number of blocks. */
+enum { NO_SIZES = 39 };
+
+extern const uint64_t no_sizes[NO_SIZES];
+
+/* One for each P, with last pages full, almost full and almost empty. */
+extern const uint64_t size_by_pages[MOST_PAGES];
+
+/* The entries that read a table, plan and give pages. */
+enum { REGION_ENTRIES = 5 };
+
+extern const enum entry_index region_entries[REGION_ENTRIES];
+
+/* The pairs of different blocks that primary and mirror can stand in. */
+enum { PLACEMENTS = 12 };
+
+/* Casts that are refused each in its way, and one that is not. */
+enum { TROUBLES = 12 };
+
 /* What the large chip's entries are lent, and the tables in it. */
 struct scene {
 	struct region region;
@@ -51,6 +75,11 @@ struct scene {
 
 /* A cast of a settled pair in these blocks, the others blank. */
 struct cast cast_settled(uint64_t n, unsigned primary, unsigned mirror, uint8_t version);
+
+/* The same in pair i of blocks. */
+struct cast cast_placed(uint64_t n, unsigned i, uint8_t version);
+
+struct cast cast_troubled(uint64_t n, unsigned trouble);
 
 /* Draws the page and the way of a cast's spoilt copies. */
 void cast_draw_spoilt(struct test *test, struct cast *cast);
@@ -65,8 +94,7 @@ void scene_build_changing(struct test *test, struct scene *scene, const struct c
  * write. */
 void scene_rebuild(struct test *test, struct scene *scene, const struct cast *cast);
 
-/* Does an entry take a wanted bitmap? Does it take a step's number, and give a page? */
-bool takes_wanted(enum entry_index index);
+/* Does an entry take a step's number, and give a page? */
 bool gives_page(enum entry_index index);
 
 /* Draws anew every byte of the region that must not count. */
