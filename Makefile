@@ -27,6 +27,7 @@
 #   SEED=(the time) HISTORIES=0    of soak: the first history's seed, and how many; 0 goes on until it is interrupted
 #   FUZZ_CC=clang FUZZ_TIME=60     of fuzz: the compiler, and for how many seconds
 #   VALGRIND_HISTORIES=200         of valgrind: how many histories the simulator runs
+#   VALGRIND_ROUNDS=50             of valgrind: of the host test's long trials one round in so many is made
 
 CC ?= cc
 CFLAGS ?= -O2
@@ -202,17 +203,16 @@ corpus:
 
 # ---- valgrind
 
-# Under valgrind a program is some ninety times slower: the simulator runs fewer histories, and the host test, which
-# comes last, takes about twenty minutes. The others together take one.
+# Under valgrind a program is some ninety times slower, so the simulator runs fewer histories and the host test leaves
+# out rounds; VALGRIND_ROUNDS=1 makes all of them, in about twenty minutes.
 VALGRIND ?= valgrind --quiet --error-exitcode=1 --leak-check=full
 VALGRIND_HISTORIES ?= 200
+VALGRIND_ROUNDS ?= 50
 
-.PHONY: valgrind valgrind-short
+.PHONY: valgrind
 
-valgrind-short: $(host)/example $(host)/replay $(host)/histories
+valgrind: $(host)/example $(host)/replay $(host)/histories $(host)/host_test
 	$(VALGRIND) $(host)/example
 	$(VALGRIND) $(host)/replay fuzz/corpus/*
 	$(VALGRIND) $(host)/histories 1 $(VALGRIND_HISTORIES)
-
-valgrind: valgrind-short $(host)/host_test
-	$(VALGRIND) $(host)/host_test
+	$(VALGRIND) $(host)/host_test $(VALGRIND_ROUNDS)

@@ -215,6 +215,11 @@ static void expect_bytes(struct test *test, unsigned i, const uint8_t *other, co
 	expect(test, false, what);
 }
 
+bool left_out(struct test *test)
+{
+	return test->one_in > 1 && test->round++ % test->one_in != 0;
+}
+
 int test_end(const struct test *test)
 {
 	uint64_t calls = 0;

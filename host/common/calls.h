@@ -73,6 +73,8 @@ struct call {
 struct test {
 	const char *trying;		/* what is being tried, for messages */
 	uint64_t state;			/* of draw() */
+	uint64_t one_in;		/* of the rounds of a long trial one in so many is made; 0: all */
+	uint64_t round;			/* of long trials, counted */
 	uint64_t calls[ENTRIES];	/* calls compared */
 	uint64_t differences;
 	struct call call;		/* the last call, as it was made */
@@ -105,6 +107,9 @@ void expect(struct test *test, bool holds, const char *what);
 
 /* Expects the library's last answer to be this one. */
 void expect_answer(struct test *test, uint64_t answer, const char *what);
+
+/* Is this round of a long trial left out? */
+bool left_out(struct test *test);
 
 /* Prints how many calls were compared and how many differences were found; gives the exit status. */
 int test_end(const struct test *test);

@@ -3,7 +3,9 @@
  * every run, and compares each answer and each lent byte with the reference (see calls.h). Where document 01
  * fixes the outcome of a trial in words, the outcome is checked by itself too.
  *
- *	host_test
+ *	host_test [one in]
+ *
+ * With a number, a short run: of the rounds of long trials one in so many is made.
  *
  * The last line says how many calls were compared and how many differences were found; the exit status
  * is 0 if there were none.
@@ -30,7 +32,16 @@ static void run(struct test *test, struct scene *scene)
 	test_arguments(test, scene);
 }
 
-int main(void)
+/* The argument: a number from 1 on. */
+static bool parse(const char *text, uint64_t *number)
+{
+	char *end;
+
+	*number = strtoull(text, &end, 10);
+	return *text >= '1' && *text <= '9' && *end == '\0';
+}
+
+int main(int argc, char **argv)
 {
 	struct test *test = calloc(1, sizeof(*test));
 	struct scene *scene = calloc(1, sizeof(*scene));
@@ -38,6 +49,8 @@ int main(void)
 
 	if (!test || !scene) {
 		printf("host test: no memory\n");
+	} else if (argc > 2 || (argc > 1 && !parse(argv[1], &test->one_in))) {
+		printf("usage: host_test [one in]\n");
 	} else {
 		test->state = SEED;
 		run(test, scene);

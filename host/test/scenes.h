@@ -1,10 +1,6 @@
 /*
- * Regions made to order, and what document 01 says of each.
- *
- * A cast says what each block of a region is to be and how the two kinds' versions and tables stand to each
- * other. scene_build() makes such a region, with the bytes that are left open drawn. expect_cast() calls the
- * region's entries on it and expects the outcome that follows from the cast alone, with no look at a byte of
- * the region: a second opinion beside the reference's.
+ * Regions made to order. A cast says what each block of a region is to be and how the two kinds' versions and
+ * tables stand to each other. scene_build() makes such a region, with the bytes that are left open drawn.
  */
 #ifndef SCENES_H
 #define SCENES_H
@@ -105,16 +101,5 @@ void scene_set_up(struct test *test, enum entry_index index, const void *inputs)
 
 /* Makes it. */
 uint64_t scene_call(struct test *test, enum entry_index index, const struct scene *scene);
-
-/* Does an update change anything: is an entry good in `old` and not good in `wanted`? */
-bool update_changes(const uint8_t *old, const uint8_t *wanted, uint64_t n);
-
-/* The outcome of each of the region's entries. The pages of a plan's steps are asked for one after the other,
- * and a few past its end. */
-void expect_cast(struct test *test, struct scene *scene, const struct cast *cast);
-
-/* The same, and then the plans are carried out, with a table of the test's own making: the pair is settled
- * and holds that table. The scene's region is lost. */
-void expect_cast_carried_out(struct test *test, struct scene *scene, const struct cast *cast);
 
 #endif

@@ -1,6 +1,6 @@
 /*
- * Arguments that are wrong, of every entry: numbers of blocks, lengths and status bytes, each alone and all together
- * with what is wrong in a region. Refusals come exactly where they have to, and in document 01's order.
+ * Arguments that are wrong, of every entry: numbers of blocks, lengths and status bytes, each alone and all
+ * together with what is wrong in a region. Refusals come exactly where they have to, in document 01's order.
  */
 #include "tests.h"
 
@@ -8,6 +8,7 @@
 
 #include "draw.h"
 #include "lengths.h"
+#include "outcomes.h"
 #include "reamsickle.h"
 #include "region.h"
 #include "scenes.h"
@@ -54,6 +55,8 @@ static void try_numbers_of_blocks(struct test *test, struct scene *scene)
 
 			scene_build(test, scene, &cast);
 			for (unsigned k = 0; k < NO_SIZES; k++) {
+				if (left_out(test))
+					continue;
 				scene_set_up(test, index, scene);
 				test->call.number[0] = no_sizes[k];
 				call_compare(test);
@@ -70,7 +73,7 @@ static void try_numbers_of_blocks(struct test *test, struct scene *scene)
 		 * is asked for there is no copy, so that the step's number is not looked at. */
 		test->trying = "numbers of blocks from 0 on";
 		for (uint64_t n = 0; n <= 33000; n++) {
-			if (n > 64 && n % 1024 > 8 && n % 13 != 0)
+			if ((n > 64 && n % 1024 > 8 && n % 13 != 0) || left_out(test))
 				continue;
 			call_begin_large(test, index, n);
 			if (has_buffer(index, "status"))

@@ -51,6 +51,8 @@ static void try_drawn_regions(struct test *test, struct scene *scene)
 	for (unsigned i = 0; i < 12000; i++) {
 		struct cast cast = cast_settled(size_by_pages[i % MOST_PAGES], 0, 1, 0);
 
+		if (left_out(test))
+			continue;
 		cast.equal = i % 2 == 0;
 		scene_build(test, scene, &cast);
 		for (unsigned block = 0; block < REGION_BLOCKS; block++) {
@@ -68,6 +70,8 @@ static void try_drawn_regions(struct test *test, struct scene *scene)
 
 	test->trying = "senseless regions";
 	for (unsigned i = 0; i < 200; i++) {
+		if (left_out(test))
+			continue;
 		region_begin(&scene->region, sizes[i % SIZES]);
 		draw_bytes(&test->state, scene->region.image, region_image_len(&scene->region));
 		for (unsigned k = 0; k < REGION_ENTRIES; k++) {

@@ -26,6 +26,8 @@ static void try_first_bitmaps(struct test *test, struct scene *scene)
 
 		test->trying = "marks that are all the same";
 		for (unsigned byte = 0; byte < 256; byte += size < 3 ? 1 : 51) {
+			if (left_out(test))
+				continue;
 			memset(scene->marks, (int)byte, (size_t)n);
 			expect_first_bitmap(test, scene, n);
 		}
@@ -34,6 +36,8 @@ static void try_first_bitmaps(struct test *test, struct scene *scene)
 		for (unsigned i = 0; i < 40; i++) {
 			const uint64_t block = i < 8 ? i : i < 16 ? n - 1 - (i - 8) : draw_below(&test->state, n);
 
+			if (left_out(test))
+				continue;
 			memset(scene->marks, 0xFF, (size_t)n);
 			scene->marks[block] = 0;
 			expect_first_bitmap(test, scene, n);

@@ -1,6 +1,6 @@
 /*
- * The header itself: its version, the sizes of buffers, entries of bitmaps, and the functions for pointers that may be
- * null, for which each such pointer is a wrong length.
+ * The header itself: its version, the sizes of buffers, entries of bitmaps, and the functions for pointers that
+ * may be null, for which each such pointer is a wrong length.
  */
 #include "tests.h"
 
@@ -66,7 +66,7 @@ static void try_entries_of_bitmaps(struct test *test)
 
 /* ---- pointers that may be null */
 
-/* The small chip's entries. */
+/* Of the small chip's entries. */
 static void try_null_in_pages(struct test *test)
 {
 	const struct page page = page_drawn(test);
@@ -103,7 +103,7 @@ static void try_null_in_pages(struct test *test)
 	       "with no null pointer the checked functions are the entries");
 }
 
-/* The large chip's, */
+/* Of the large chip's that read, plan and make a first bitmap. */
 static void try_null_in_regions(struct test *test, struct scene *scene)
 {
 	const struct cast cast = cast_settled(8, 1, 0, 200);
@@ -147,7 +147,7 @@ static void try_null_in_regions(struct test *test, struct scene *scene)
 	       "with no null pointer the checked functions are the entries");
 }
 
-/* and those that give pages. */
+/* Of those that give pages. */
 static void try_null_in_asking(struct test *test, struct scene *scene)
 {
 	struct cast cast = cast_settled(8, 1, 0, 200);

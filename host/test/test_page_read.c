@@ -160,6 +160,8 @@ static void try_single_flips(struct test *test, const struct page *page)
 		const enum part part = part_of(place);
 		struct page damaged = *page;
 
+		if (left_out(test))
+			continue;
 		flip(&damaged, place);
 		page_read(test, &damaged);
 		expect_fields(test, page, damaged.spare[5], part != NO_PART);
@@ -178,6 +180,8 @@ static void try_double_flip(struct test *test, const struct page *page, unsigned
 	const unsigned other = 3 - half;
 	struct page damaged = *page;
 
+	if (left_out(test))
+		return;
 	flip(&damaged, half_place(half, i));
 	flip(&damaged, half_place(half, k));
 	if ((i + k) % 2 == 0)

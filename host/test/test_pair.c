@@ -7,6 +7,7 @@
 #include <string.h>
 
 #include "draw.h"
+#include "outcomes.h"
 #include "reamsickle.h"
 #include "region.h"
 #include "scenes.h"
@@ -60,6 +61,8 @@ static void try_settled(struct test *test, struct scene *scene)
 	for (uint64_t n = 8; n <= 32768; n += 4 * (1 + draw_below(&test->state, 20))) {
 		const struct cast cast = cast_placed(n, (unsigned)draw_below(&test->state, PLACEMENTS), 254);
 
+		if (left_out(test))
+			continue;
 		scene_build(test, scene, &cast);
 		scene_stir(test, scene);
 		expect_cast(test, scene, &cast);
@@ -77,6 +80,8 @@ static void try_damage(struct test *test, struct scene *scene)
 			for (unsigned k = 0; k < (p + 1) * WAYS; k++) {
 				struct cast cast = cast_placed(size_by_pages[p], i / 2, 100);
 
+				if (left_out(test))
+					continue;
 				cast.page = k / WAYS;
 				cast.way = (enum way)(k % WAYS);
 				if (p == 0 && cast.way >= OTHER_SIGNATURE)
@@ -123,6 +128,8 @@ static void try_header_bits(struct test *test, struct scene *scene)
 			for (unsigned bit = 0; bit < 2 * 8 * 5; bit++) {
 				uint8_t *oob = region_oob(&scene->region, bit < 40 ? 1 : 3, page);
 
+				if (left_out(test))
+					continue;
 				oob[SIGNATURE + bit % 40 / 8] ^= (uint8_t)(1 << bit % 8);
 				for (unsigned i = 0; i < REGION_ENTRIES; i++)
 					expect_one_bit(test, scene, region_entries[i], p == 0 && bit % 40 == 39);
@@ -168,6 +175,8 @@ static void try_bitmap_bits(struct test *test, struct scene *scene)
 			uint8_t *byte = region_data(&scene->region, mirror, page) + i % PAGE_DATA;
 			const uint8_t kept = *byte;
 
+			if (left_out(test))
+				continue;
 			*byte ^= (uint8_t)(1 << draw_below(&test->state, 8));
 			scene_call(test, TABLE_READ, scene);
 			expect_answer(test, REAM_NOT_SETTLED, "different bitmaps are not settled");
@@ -190,6 +199,8 @@ static void try_roles(struct test *test, struct scene *scene)
 			struct cast cast = cast_settled(size_by_pages[p], 0, 1, (uint8_t)draw(&test->state));
 			unsigned rest = all;
 
+			if (left_out(test))
+				continue;
 			for (unsigned block = 0; block < REGION_BLOCKS; block++) {
 				cast.role[block] = (enum role)(rest % ROLES);
 				rest /= ROLES;
@@ -214,6 +225,8 @@ static void try_versions(struct test *test, struct scene *scene)
 	test->trying = "all pairs of versions";
 	scene_build(test, scene, &cast);
 	for (unsigned pair = 0; pair < 256 * 256; pair++) {
+		if (left_out(test))
+			continue;
 		cast.version[PRIMARY] = (uint8_t)(pair / 256);
 		cast.version[MIRROR] = (uint8_t)(pair % 256);
 		region_oob(&scene->region, 0, 0)[VERSION] = cast.version[PRIMARY];
@@ -226,6 +239,8 @@ static void try_versions(struct test *test, struct scene *scene)
 		for (unsigned i = 0; i < 2 * 256; i++) {
 			const unsigned placement = (unsigned)draw_below(&test->state, PLACEMENTS);
 
+			if (left_out(test))
+				continue;
 			cast = cast_placed(sizes[size], placement, (uint8_t)draw(&test->state));
 			cast.version[PRIMARY] += (uint8_t)(i / 2);
 			cast.equal = i % 2 == 0;

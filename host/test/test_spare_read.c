@@ -102,6 +102,8 @@ static void try_words(struct test *test)
 				const unsigned i = pair / 32, k = pair % 32;
 				uint8_t spare[16];
 
+				if (left_out(test))
+					continue;
 				memcpy(spare, page.spare, 16);
 				spare[bytes[word][i / 8]] ^= (uint8_t)(1 << i % 8);
 				spare[bytes[word][k / 8]] ^= (uint8_t)(1 << k % 8);
@@ -120,6 +122,8 @@ static void try_drawn_spares(struct test *test)
 	for (unsigned i = 0; i < 60000; i++) {
 		uint8_t spare[16];
 
+		if (left_out(test))
+			continue;
 		draw_bytes(&test->state, spare, 16);
 		if (i % 8 != 0)
 			spare[5] = (uint8_t)(0xFF ^ (i % 16 < 8 ? 0 : 1 << i % 7));

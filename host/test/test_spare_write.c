@@ -140,6 +140,8 @@ static void try_paths_and_counts_to_write(struct test *test)
 		const uint64_t path = draw(&test->state) >> draw_below(&test->state, 64);
 		const uint64_t count = draw(&test->state) >> draw_below(&test->state, 64);
 
+		if (left_out(test))
+			continue;
 		expect_written(test, data, tag, path, count);
 	}
 }
