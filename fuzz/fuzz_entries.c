@@ -68,13 +68,13 @@ static const struct {
 
 /* ---- the call that an input asks for */
 
+/* A number of this name; any eight bytes, if none of that name is listed. */
 static uint64_t take_named(struct input *input, const char *name)
 {
-	unsigned i = 0;
-
-	while (strcmp(worth_trying[i].name, name) != 0)
-		i++;
-	return take_number(input, worth_trying[i].number, worth_trying[i].count);
+	for (unsigned i = 0; i < sizeof(worth_trying) / sizeof(worth_trying[0]); i++)
+		if (strcmp(worth_trying[i].name, name) == 0)
+			return take_number(input, worth_trying[i].number, worth_trying[i].count);
+	return take_wide(input, 8);
 }
 
 static void take_numbers(struct input *input, enum entry_index index, uint64_t *number)
