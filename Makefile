@@ -125,6 +125,7 @@ cuts-test: $(host)/histories $(host)/histories_sanitized
 	timeout --preserve-status -s INT 1 $(host)/histories 1 0 > $(host)/interrupted.txt
 	tail -n 1 $(host)/interrupted.txt | grep interrupted
 
+# The tool's own test.
 tool-test: $(host)/ream $(host)/ream_sanitized
 	host/test_ream.sh $(host)/ream
 	host/test_ream.sh $(host)/ream_sanitized
@@ -161,13 +162,15 @@ uninstall:
 	$(refuse_odd)rm -f '$(root)/include/reamsickle.h' '$(root)/lib/libreamsickle.a' \
 		'$(root)/lib/pkgconfig/reamsickle.pc' '$(root)/bin/ream' '$(root)/share/man/man1/ream.1'
 
-# Under an ordinary prefix, one with a space, one that is relative, and staged.
+# Under an ordinary prefix, one with a space, one that is relative, and staged; and one that is refused.
 install-test: $(library) $(host)/ream
 	rm -rf target/install-test
 	host/test/test_install.sh '$(CURDIR)/target/install-test/plain'
 	host/test/test_install.sh '$(CURDIR)/target/install-test/with a space'
 	host/test/test_install.sh target/install-test/relative
 	host/test/test_install.sh /usr/local '$(CURDIR)/target/install-test/staged'
+	! $(MAKE) -s install PREFIX="target/install-test/o'clock" 2> target/install-test/refused
+	grep "PREFIX or DESTDIR has a ' in it" target/install-test/refused
 
 install-test: export CC := $(CC)
 install-test: export CXX := $(CXX)
