@@ -1,88 +1,103 @@
-# Reamsickle: the static library and the C programs over it. Needed: the Rattle toolchain (rt), a C compiler
-# and make. All that is built stands under target/.
+# Reamsickle: the static library and the C programs over it. Needed are the Rattle toolchain (rt), a C compiler and
+# make. All that is built stands under target/.
 #
-#   make            the library and the host programs
-#   make run        the tool's simulation of an update, power cuts and recoveries, with a picture
-#   make example    the example, host/example.c
-#   make test       the gate: all proofs and all tests (.ci/run)
-#   make host-test  the host test, a fixed run of the power-cut simulator and the tool's test, plain and built with
-#                   sanitizers
-#   make soak       the power-cut simulator until it is interrupted; SEED=1 HISTORIES=100000 runs so many
-#   make bench      the time of each entry beside the reference's, and of a half's code beside other C
-#   make install-test, make replay
-#                   an installation under target/ is tried from C and C++; the inputs of fuzz/corpus are compared.
-#                   Both are part of make host-test
-#   make install    the library, its header and its pkg-config file, and the tool with its manual where this tree
-#                   has them, into PREFIX=/usr/local; DESTDIR= stages them elsewhere
-#   make uninstall  removes them again
-#   make fuzz       all entries under libFuzzer, for FUZZ_TIME=60 seconds; not part of the gate
-#   make corpus     writes the inputs that fuzzing starts from, fuzz/corpus, anew
-#   make valgrind   the example, the inputs of fuzz/corpus, the simulator and the host test under valgrind; not
-#                   part of the gate. make valgrind-short leaves out the host test, which is long
-#   make clean      removes target/
+#   make                the library and the host programs
+#   make run            the tool's simulation of updates, power cuts and recoveries, with a picture
+#   make example        a driver in small, host/example
+#   make test           the gate: all proofs and all tests (.ci/run)
+#   make host-test      the gate's C part: the four tests below and the host test, plain and with sanitizers
+#   make cuts-test      a fixed run of the power-cut simulator
+#   make tool-test      the tool's own test
+#   make install-test   an installation under target/, tried from C and C++
+#   make replay         the inputs of fuzz/corpus, compared
+#   make soak           the power-cut simulator, until it is interrupted
+#   make bench          the time of each entry beside the reference's, and of a half's code beside other C
+#   make fuzz           all entries under libFuzzer; not part of the gate
+#   make corpus         writes fuzz/corpus anew, the inputs that fuzzing starts from
+#   make valgrind       the example, the corpus, the simulator and the host test under valgrind; not part of the gate
+#   make install        the library with its header and pkg-config file, and the tool with its manual
+#   make uninstall      removes them again
+#   make clean          removes target/
+#   make help           prints this
+#
+# Variables, as they are where nothing else is given:
+#
+#   CC=cc CXX=g++ CFLAGS=-O2       the compilers, and the flags of the host programs
+#   PREFIX=/usr/local DESTDIR=     of install and uninstall: where to; DESTDIR stages it elsewhere
+#   SEED=(the time) HISTORIES=0    of soak: the first history's seed, and how many; 0 goes on until it is interrupted
+#   FUZZ_CC=clang FUZZ_TIME=60     of fuzz: the compiler, and for how many seconds
+#   VALGRIND_HISTORIES=200         of valgrind: how many histories the simulator runs
+#   VALGRIND_ROUNDS=50             of valgrind: of the host test's long trials one round in so many is made
 
 CC ?= cc
 CFLAGS ?= -O2
 WARNINGS := -std=c99 -Wall -Wextra -pedantic
 SANITIZE := -g -fsanitize=address,undefined -fno-sanitize-recover=all
+FOLDERS := -Iinclude -Ihost/common -Ihost/reference
 
 library := target/staticlib/libreamsickle.a
 host := target/host
-programs := $(host)/ream $(host)/ream_sanitized $(host)/example $(host)/host_test $(host)/host_test_sanitized \
-	$(host)/histories $(host)/histories_sanitized $(host)/bench
-headers := $(wildcard include/*.h host/*.h host/ream/*.h)
-reference := host/reference.c host/reference_large.c
-test_sources := host/host_test.c host/test_small.c host/test_large.c host/scenes.c host/lengths.c \
-	host/calls.c host/lent.c host/drawn.c host/region.c $(reference)
-history_sources := host/histories.c host/history.c host/checker.c host/driver.c host/rig.c host/tally.c \
-	host/lent.c host/drawn.c host/region.c $(reference)
-ream_sources := $(wildcard host/ream/*.c) host/checker.c host/rig.c host/drawn.c host/region.c \
-	host/reference_large.c
-bench_sources := host/bench.c host/region.c $(reference)
+programs := example host_test histories bench ream
 
-compile = $(CC) $(WARNINGS) $(CFLAGS) -Iinclude
-
-# The code of a half in fast C, for the benchmark.
-bench_sources += host/yardstick.c
-
-# What `make soak` runs. 0 histories go on until they are interrupted.
-SEED ?= $(shell date +%s%N)
-HISTORIES ?= 0
-
-.PHONY: all run example test host-test soak bench clean
 .DELETE_ON_ERROR:
 
-all: $(library) $(programs)
+.PHONY: all help clean
+
+all: $(library) $(programs:%=$(host)/%) $(host)/host_test_sanitized $(host)/histories_sanitized $(host)/ream_sanitized
 
 $(library): $(shell find crates crates.txt -type f 2>/dev/null)
 	rt staticlib reamsickle
 
-$(host):
-	mkdir -p $@
+help:
+	@sed -n -e '/^#/!q' -e 's/^# \{0,1\}//p' $(firstword $(MAKEFILE_LIST))
 
-$(host)/ream: $(ream_sources) $(headers) $(library) | $(host)
-	$(compile) -Ihost -o $@ $(ream_sources) $(library)
+clean:
+	rm -rf target
 
-$(host)/ream_sanitized: $(ream_sources) $(headers) $(library) | $(host)
-	$(compile) -Ihost $(SANITIZE) -o $@ $(ream_sources) $(library)
+# ---- the host programs
 
-$(host)/example: host/example.c $(headers) $(library) | $(host)
-	$(compile) -o $@ host/example.c $(library)
+# A program is the C files of one folder, and what it needs of host/common and host/reference. It is built plain, and
+# with sanitizers under the name PROGRAM_sanitized. $(call objects,FLAVOUR,SOURCES), $(call flavour,FLAVOUR,FLAGS) and
+# $(call program,NAME,SOURCES) make the rules.
+headers := $(wildcard include/*.h host/*/*.h fuzz/*.h)
+shared := $(wildcard host/common/*.c host/reference/*.c)
 
-$(host)/host_test: $(test_sources) $(headers) $(library) | $(host)
-	$(compile) -o $@ $(test_sources) $(library)
+objects = $(2:%.c=$(host)/$(1)/%.o)
 
-$(host)/host_test_sanitized: $(test_sources) $(headers) $(library) | $(host)
-	$(compile) $(SANITIZE) -o $@ $(test_sources) $(library)
+define flavour
+$(host)/$(1)/%.o: %.c $(headers)
+	@mkdir -p $$(@D)
+	$(CC) $(WARNINGS) $(CFLAGS) $(2) $(FOLDERS) -c -o $$@ $$<
 
-$(host)/histories: $(history_sources) $(headers) $(library) | $(host)
-	$(compile) -o $@ $(history_sources) $(library)
+$(host)/$(1)/shared.a: $(call objects,$(1),$(shared))
+	rm -f $$@
+	$(AR) rcs $$@ $$^
+endef
 
-$(host)/histories_sanitized: $(history_sources) $(headers) $(library) | $(host)
-	$(compile) $(SANITIZE) -o $@ $(history_sources) $(library)
+define program
+$(host)/$(1): $(call objects,plain,$(2)) $(host)/plain/shared.a $(library)
+	$(CC) $(CFLAGS) -o $$@ $$^
 
-$(host)/bench: $(bench_sources) $(headers) $(library) | $(host)
-	$(compile) -o $@ $(bench_sources) $(library)
+$(host)/$(1)_sanitized: $(call objects,sanitized,$(2)) $(host)/sanitized/shared.a $(library)
+	$(CC) $(CFLAGS) $(SANITIZE) -o $$@ $$^
+endef
+
+$(eval $(call flavour,plain,))
+$(eval $(call flavour,sanitized,$(SANITIZE)))
+$(eval $(call program,example,$(wildcard host/example/*.c)))
+$(eval $(call program,host_test,$(wildcard host/test/*.c)))
+$(eval $(call program,histories,$(wildcard host/simulator/*.c)))
+$(eval $(call program,bench,$(wildcard host/bench/*.c)))
+$(eval $(call program,ream,$(wildcard host/ream/*.c)))
+$(eval $(call program,replay,$(wildcard fuzz/*.c)))
+
+# ---- running and testing
+
+# What `make soak` runs.
+SEED ?= $(shell date +%s%N)
+HISTORIES ?= 0
+
+.PHONY: run example soak bench test host-test cuts-test tool-test replay
 
 run: $(host)/ream
 	$(host)/ream simulate --seed 645 --events 13 --svg $(host)/simulation.svg --force
@@ -90,26 +105,34 @@ run: $(host)/ream
 example: $(host)/example
 	$(host)/example
 
-test:
-	.ci/run
-
-host-test: $(host)/host_test $(host)/host_test_sanitized $(host)/histories $(host)/histories_sanitized \
-		$(host)/ream $(host)/ream_sanitized
-	$(host)/host_test
-	$(host)/host_test_sanitized
-	$(host)/histories
-	$(host)/histories_sanitized
-	host/test_ream.sh $(host)/ream
-	host/test_ream.sh $(host)/ream_sanitized
-
 soak: $(host)/histories
-	$(host)/histories $(SEED) $(HISTORIES)
+	@$(host)/histories $(SEED) $(HISTORIES)
 
 bench: $(host)/bench
 	$(host)/bench
 
-clean:
-	rm -rf target
+test:
+	.ci/run
+
+host-test: $(host)/host_test $(host)/host_test_sanitized cuts-test tool-test install-test replay
+	$(host)/host_test
+	$(host)/host_test_sanitized
+
+# The last run is interrupted: it ends well, with what it counted.
+cuts-test: $(host)/histories $(host)/histories_sanitized
+	$(host)/histories
+	$(host)/histories_sanitized
+	timeout --preserve-status -s INT 1 $(host)/histories 1 0 > $(host)/interrupted.txt
+	tail -n 1 $(host)/interrupted.txt | grep interrupted
+
+# The tool's own test.
+tool-test: $(host)/ream $(host)/ream_sanitized
+	host/test_ream.sh $(host)/ream
+	host/test_ream.sh $(host)/ream_sanitized
+
+# The inputs of the fuzzed target, without libFuzzer.
+replay: $(host)/replay
+	$(host)/replay fuzz/corpus/*
 
 # ---- installing
 
@@ -117,74 +140,40 @@ VERSION := $(shell sed -n 's/^\#define REAM_LIBRARY_VERSION "\(.*\)"/\1/p' inclu
 PREFIX ?= /usr/local
 DESTDIR ?=
 
-# The tool ream and its manual, where this tree has them.
-tool := $(if $(wildcard host/ream),$(host)/ream)
-manual := $(wildcard man/ream.1)
-
-installed_header := $(DESTDIR)$(PREFIX)/include/reamsickle.h
-installed_library := $(DESTDIR)$(PREFIX)/lib/libreamsickle.a
-installed_pc := $(DESTDIR)$(PREFIX)/lib/pkgconfig/reamsickle.pc
-installed_tool := $(DESTDIR)$(PREFIX)/bin/ream
-installed_manual := $(DESTDIR)$(PREFIX)/share/man/man1/ream.1
+# A prefix that does not start with / is meant from here. It may have spaces, but none of the characters that mean
+# something else in a shell or in a pkg-config file.
+prefix = $(if $(filter-out /%,$(firstword $(PREFIX))),$(CURDIR)/)$(PREFIX)
+root = $(DESTDIR)$(prefix)
+odd := ' " \ ` | & \#
+refuse_odd = $(foreach c,$(odd),$(if $(findstring $(c),$(root)),$(error PREFIX or DESTDIR has a $(c) in it: $(root))))
 
 .PHONY: install uninstall install-test
 
-install: $(library) $(tool) $(manual)
-	install -d $(dir $(installed_header) $(installed_pc))
-	install -m 644 include/reamsickle.h $(installed_header)
-	install -m 644 $(library) $(installed_library)
-	sed -e 's|@PREFIX@|$(PREFIX)|' -e 's|@VERSION@|$(VERSION)|' reamsickle.pc.in > $(installed_pc)
-	chmod 644 $(installed_pc)
-	$(if $(tool),install -D -m 755 $(tool) $(installed_tool))
-	$(if $(manual),install -D -m 644 $(manual) $(installed_manual))
+install: $(library) $(host)/ream
+	$(refuse_odd)install -d '$(root)/include' '$(root)/lib/pkgconfig' '$(root)/bin' '$(root)/share/man/man1'
+	install -m 644 include/reamsickle.h '$(root)/include/reamsickle.h'
+	install -m 644 $(library) '$(root)/lib/libreamsickle.a'
+	sed -e 's|@PREFIX@|$(prefix)|' -e 's|@VERSION@|$(VERSION)|' reamsickle.pc.in > target/reamsickle.pc
+	install -m 644 target/reamsickle.pc '$(root)/lib/pkgconfig/reamsickle.pc'
+	install -m 755 $(host)/ream '$(root)/bin/ream'
+	install -m 644 man/ream.1 '$(root)/share/man/man1/ream.1'
 
 uninstall:
-	rm -f $(installed_header) $(installed_library) $(installed_pc) $(installed_tool) $(installed_manual)
+	$(refuse_odd)rm -f '$(root)/include/reamsickle.h' '$(root)/lib/libreamsickle.a' \
+		'$(root)/lib/pkgconfig/reamsickle.pc' '$(root)/bin/ream' '$(root)/share/man/man1/ream.1'
 
-# What is installed serves C and C++ programs: the header stands alone and gives no warning, and programs are
-# built with the flags of the pkg-config file, which are read from the file itself where pkg-config is missing.
-staged := target/installed
-staged_pc := $(staged)/lib/pkgconfig/reamsickle.pc
-staged_make = $(MAKE) --no-print-directory -s PREFIX=$(CURDIR)/$(staged) DESTDIR=
-trials := target/install-test
-trial_flags = $$(cat $(trials)/flags)
-strict := -Wall -Wextra -pedantic -Werror -Wconversion -Wsign-conversion -Wshadow
+# Under an ordinary prefix, one with a space, one that is relative, and staged; and one that is refused.
+install-test: $(library) $(host)/ream
+	rm -rf target/install-test
+	host/test/test_install.sh '$(CURDIR)/target/install-test/plain'
+	host/test/test_install.sh '$(CURDIR)/target/install-test/with a space'
+	host/test/test_install.sh target/install-test/relative
+	host/test/test_install.sh /usr/local '$(CURDIR)/target/install-test/staged'
+	! $(MAKE) -s install PREFIX="target/install-test/o'clock" 2> target/install-test/refused
+	grep "PREFIX or DESTDIR has a ' in it" target/install-test/refused
 
-define small_program
-#include <reamsickle.h>
-int main(void)
-{
-	return ream_refusal(ream_half_code_checked(NULL, 0, NULL, 0)) == REAM_LENGTH ? 0 : 1;
-}
-endef
-
-install-test: $(library) $(tool) $(manual)
-	rm -rf $(staged) $(trials)
-	mkdir -p $(trials)
-	$(file >target/small_program,$(small_program))
-	$(staged_make) install
-	if command -v pkg-config; then \
-		pkg-config --cflags --libs $(staged_pc) > $(trials)/flags; \
-	else \
-		sed -n -e 's|$${includedir}|$(staged)/include|' -e 's|$${libdir}|$(staged)/lib|' \
-			-e 's/^Cflags: //p' -e 's/^Libs: //p' $(staged_pc) > $(trials)/flags; \
-	fi
-	echo '#include <reamsickle.h>' | $(CC) -std=c99 $(strict) -fsyntax-only -x c - $(trial_flags)
-	$(CC) -std=c99 $(strict) -o $(trials)/small_c -x c target/small_program $(trial_flags)
-	$(trials)/small_c
-	if command -v $(CXX); then \
-		echo '#include <reamsickle.h>' | $(CXX) -std=c++17 $(strict) -fsyntax-only -x c++ - $(trial_flags) && \
-		$(CXX) -std=c++17 $(strict) -o $(trials)/small_cxx -x c++ target/small_program $(trial_flags) && \
-		$(trials)/small_cxx; \
-	else \
-		echo 'install-test: there is no C++ compiler, so C++ is not tried'; \
-	fi
-	$(CC) $(WARNINGS) -o $(trials)/example host/example.c $(trial_flags)
-	$(trials)/example > $(trials)/example.out
-	$(staged_make) uninstall
-	test -z "$$(find $(staged) -type f)"
-
-host-test: install-test
+install-test: export CC := $(CC)
+install-test: export CXX := $(CXX)
 
 # ---- fuzzing
 
@@ -194,20 +183,18 @@ FUZZ_TIME ?= 60
 FUZZ_SANITIZE := -g -fsanitize=fuzzer,address,undefined -fno-sanitize-recover=all
 
 fuzz := target/fuzz
-fuzz_headers := $(wildcard fuzz/*.h)
-fuzz_sources := fuzz/fuzz_entries.c fuzz/input.c fuzz/build.c fuzz/fence.c host/calls.c host/lent.c host/drawn.c \
-	host/region.c $(reference)
+fuzz_sources := $(filter-out fuzz/replay.c,$(wildcard fuzz/*.c)) $(shared)
 
-.PHONY: fuzz corpus replay
+.PHONY: fuzz corpus
 
 $(fuzz)/found:
 	mkdir -p $@
 
-$(fuzz)/fuzz_entries: $(fuzz_sources) $(headers) $(fuzz_headers) $(library) | $(fuzz)/found
+$(fuzz)/fuzz_entries: $(fuzz_sources) $(headers) $(library) | $(fuzz)/found
 	@echo 'int LLVMFuzzerTestOneInput(const char *d, long n) { return d && n < 0; }' | \
 		$(FUZZ_CC) -fsanitize=fuzzer,address,undefined -x c - -o $(fuzz)/probe || { \
 		echo 'make fuzz needs clang with libFuzzer; on Debian: apt-get install clang libclang-rt-14-dev'; exit 1; }
-	$(FUZZ_CC) $(WARNINGS) $(CFLAGS) $(FUZZ_SANITIZE) -Iinclude -o $@ $(fuzz_sources) $(library)
+	$(FUZZ_CC) $(WARNINGS) $(CFLAGS) $(FUZZ_SANITIZE) $(FOLDERS) -o $@ $(fuzz_sources) $(library)
 
 fuzz: $(fuzz)/fuzz_entries
 	$(fuzz)/fuzz_entries -max_total_time=$(FUZZ_TIME) -max_len=512 -print_final_stats=1 \
@@ -217,28 +204,18 @@ corpus:
 	rm -rf fuzz/corpus
 	fuzz/make-corpus fuzz/corpus
 
-# The corpus without libFuzzer.
-$(host)/replay: fuzz/replay.c $(fuzz_sources) $(headers) $(fuzz_headers) $(library) | $(host)
-	$(compile) -o $@ fuzz/replay.c $(fuzz_sources) $(library)
-
-replay: $(host)/replay
-	$(host)/replay fuzz/corpus/*
-
-host-test: replay
-
 # ---- valgrind
 
-# Under valgrind a program is some ninety times slower: the simulator runs fewer histories, and the host test, which
-# comes last, takes about twenty minutes. The others together take one.
+# Under valgrind a program is some ninety times slower, so the simulator runs fewer histories and the host test leaves
+# out rounds; VALGRIND_ROUNDS=1 makes all of them, in about twenty minutes.
 VALGRIND ?= valgrind --quiet --error-exitcode=1 --leak-check=full
 VALGRIND_HISTORIES ?= 200
+VALGRIND_ROUNDS ?= 50
 
-.PHONY: valgrind valgrind-short
+.PHONY: valgrind
 
-valgrind-short: $(host)/example $(host)/replay $(host)/histories
+valgrind: $(host)/example $(host)/replay $(host)/histories $(host)/host_test
 	$(VALGRIND) $(host)/example
 	$(VALGRIND) $(host)/replay fuzz/corpus/*
 	$(VALGRIND) $(host)/histories 1 $(VALGRIND_HISTORIES)
-
-valgrind: valgrind-short $(host)/host_test
-	$(VALGRIND) $(host)/host_test
+	$(VALGRIND) $(host)/host_test $(VALGRIND_ROUNDS)

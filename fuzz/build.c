@@ -3,8 +3,8 @@
 
 #include <stdbool.h>
 
-#include "../host/drawn.h"
-#include "../host/reference.h"
+#include "drawn.h"
+#include "reference.h"
 #include "reamsickle.h"
 
 enum act {

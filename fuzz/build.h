@@ -7,7 +7,7 @@
 
 #include <stdint.h>
 
-#include "../host/region.h"
+#include "region.h"
 #include "input.h"
 
 enum { TABLES = 2 };

@@ -6,14 +6,14 @@
  *
  * The input's bytes, with zeros past its end:
  *
- *	the entry		a byte, modulo 10, in the order of enum entry_index
+ *	the entry		a byte, modulo their number, in the order of enum entry_index
  *	guards			a byte: which guard bytes and alignment; bit 0 which side is fenced
- *	the entry's numbers	take_number() each: tag, path and count; or N; or N and step
+ *	the entry's numbers	take_number() each, in the order of the parameters
  *	lengths			a byte: below 192 all are as named, otherwise that of one buffer is not, counted
  *				modulo the buffers; a byte below 128 then adds -64 to 63, otherwise it is the
  *				next eight bytes
- *	what is lent		half: take_bytes(); data and spare: lend_page(); marks: take_bytes();
- *				region and wanted: build_region(), with the second table as wanted
+ *	what is lent		a spare to read, alone or with its data: lend_page(); region and wanted:
+ *				build_region(), with the second table as wanted; others: take_bytes() each
  *
  * The library is not instrumented: it is native code as the prover made it. So coverage is that of the
  * reference, which takes each case of document 01 apart as the library has to, and memory that the library
@@ -25,8 +25,8 @@
 #include <stdlib.h>
 #include <string.h>
 
-#include "../host/calls.h"
-#include "../host/reference.h"
+#include "calls.h"
+#include "reference.h"
 #include "build.h"
 #include "fence.h"
 #include "input.h"
@@ -40,7 +40,7 @@ struct fuzz {
 
 enum { FILLER = 0x5A };		/* stands where no byte of the input is asked for */
 
-/* The numbers of each entry that are worth trying. */
+/* The numbers that are worth trying, by name. */
 static const uint64_t tags[] = {
 	REAM_TAG_FREE, REAM_TAG_LOG_COPYING, REAM_TAG_LOG, REAM_TAG_DATA_COPYING, REAM_TAG_DATA,
 	REAM_TAG_BOOT_COPYING, REAM_TAG_BOOT,
@@ -50,20 +50,37 @@ static const uint64_t counts[] = { 0, 1, REAM_COUNT_MAX, REAM_COUNT_MAX + 1 };
 static const uint64_t sizes[] = { 8, 12, 1024, 8192, 8196, 16388, 24576, 32764, 32768, 4, 10, 32772 };
 static const uint64_t steps[] = { 0, 1, 2, 3, 4, 5, 6, 7, 8, 9, 10, 11 };
 
-#define TAKE_ONE_OF(input, choices) take_number(input, choices, sizeof(choices) / sizeof(choices[0]))
+#define NUMBERS(of) of, sizeof(of) / sizeof(of[0])
+
+static const struct {
+	const char *name;
+	const uint64_t *number;
+	unsigned count;
+} worth_trying[] = {
+	{ "tag", NUMBERS(tags) },
+	{ "path", NUMBERS(paths) },
+	{ "count", NUMBERS(counts) },
+	{ "n", NUMBERS(sizes) },
+	{ "step", NUMBERS(steps) },
+};
+
+#undef NUMBERS
 
 /* ---- the call that an input asks for */
 
+/* A number of this name; any eight bytes, if none of that name is listed. */
+static uint64_t take_named(struct input *input, const char *name)
+{
+	for (unsigned i = 0; i < sizeof(worth_trying) / sizeof(worth_trying[0]); i++)
+		if (strcmp(worth_trying[i].name, name) == 0)
+			return take_number(input, worth_trying[i].number, worth_trying[i].count);
+	return take_wide(input, 8);
+}
+
 static void take_numbers(struct input *input, enum entry_index index, uint64_t *number)
 {
-	if (index == SPARE_WRITE) {
-		number[0] = TAKE_ONE_OF(input, tags);
-		number[1] = TAKE_ONE_OF(input, paths);
-		number[2] = TAKE_ONE_OF(input, counts);
-	} else if (index >= SMALL_ENTRIES) {
-		number[0] = TAKE_ONE_OF(input, sizes);
-		number[1] = index >= UPDATE_PAGE ? TAKE_ONE_OF(input, steps) : 0;
-	}
+	for (unsigned i = 0; i < entries[index].numbers; i++)
+		number[i] = take_named(input, entries[index].number_name[i]);
 }
 
 /* Where a length is to be wrong: which buffer, and by how much. */
@@ -113,9 +130,9 @@ static void lend_page(struct input *input, uint8_t *data, uint8_t *spare)
 {
 	take_bytes(input, data, REAM_SMALL_DATA_SIZE);
 	if (take(input) % 2 == 0) {
-		const uint64_t tag = TAKE_ONE_OF(input, tags);
-		const uint64_t path = TAKE_ONE_OF(input, paths);
-		const uint64_t count = TAKE_ONE_OF(input, counts);
+		const uint64_t tag = take_named(input, "tag");
+		const uint64_t path = take_named(input, "path");
+		const uint64_t count = take_named(input, "count");
 
 		memset(spare, FILLER, REAM_SMALL_SPARE_SIZE);
 		ref_spare_write(data, REAM_SMALL_DATA_SIZE, tag, path, count, spare, REAM_SMALL_SPARE_SIZE);
@@ -126,36 +143,25 @@ static void lend_page(struct input *input, uint8_t *data, uint8_t *spare)
 	take_flips(input, spare, REAM_SMALL_SPARE_SIZE);
 }
 
-static void lend_small(struct call *call, struct input *input)
-{
-	uint8_t data[REAM_SMALL_DATA_SIZE];
-
-	switch (call->index) {
-	case HALF_CODE:
-		take_bytes(input, call->bytes[0], REAM_HALF_SIZE);
-		break;
-	case SPARE_WRITE:
-		take_bytes(input, call->bytes[0], REAM_SMALL_DATA_SIZE);
-		break;
-	case SPARE_READ:
-		lend_page(input, data, call->bytes[0]);
-		break;
-	default:
-		lend_page(input, call->bytes[0], call->bytes[1]);
-		break;
-	}
-}
-
 static void lend_region(struct fuzz *fuzz, struct input *input, uint64_t n)
 {
 	const struct region *region = &fuzz->build.region;
 	struct test *test = &fuzz->test;
 
 	build_region(&fuzz->build, input, n);
-	call_lend(test, 0, region->image, region_image_len(region));
-	call_lend(test, 1, region->status, region_status_len(region));
-	if (test->call.index == UPDATE_PLAN || test->call.index == UPDATE_PAGE)
-		call_lend(test, 2, fuzz->build.table[1], (size_t)n / 4);
+	call_lend_named(test, "image", region->image, region_image_len(region));
+	call_lend_named(test, "status", region->status, region_status_len(region));
+	call_lend_named(test, "wanted", fuzz->build.table[1], (size_t)n / 4);
+}
+
+/* Any bytes in each buffer that is no output. */
+static void lend_bytes(struct call *call, struct input *input)
+{
+	const struct entry *entry = &entries[call->index];
+
+	for (unsigned i = 0; i < entry->buffers; i++)
+		if (entry->buffer[i].direction != OUT)
+			take_bytes(input, call->bytes[i], lent_held(call->len[i]));
 }
 
 /* A chip that there is not: its buffers hold as many bytes as fit. */
@@ -168,50 +174,21 @@ static void lend_filler(struct call *call)
 static void lend(struct fuzz *fuzz, struct input *input)
 {
 	struct call *call = &fuzz->test.call;
+	uint8_t data[REAM_SMALL_DATA_SIZE];
 
-	if (call->index < SMALL_ENTRIES)
-		lend_small(call, input);
-	else if (ream_table_pages(call->number[0]) == 0)
+	if (has_number(call->index, "n") && ream_table_pages(call->number[0]) == 0)
 		lend_filler(call);
-	else if (call->index == FIRST_BITMAP)
-		take_bytes(input, call->bytes[0], (size_t)call->number[0]);
-	else
+	else if (has_buffer(call->index, "image"))
 		lend_region(fuzz, input, call->number[0]);
+	else if (call->index == SPARE_READ)
+		lend_page(input, data, call->bytes[0]);
+	else if (call->index == PAGE_READ)
+		lend_page(input, call->bytes[0], call->bytes[1]);
+	else
+		lend_bytes(call, input);
 }
 
 /* ---- the same call on fenced buffers */
-
-static uint64_t call_fenced(const struct call *call, uint8_t **at)
-{
-	const uint64_t *number = call->number;
-	const size_t *len = call->len;
-
-	switch (call->index) {
-	case HALF_CODE:
-		return ream_half_code(at[0], len[0], at[1], len[1]);
-	case SPARE_WRITE:
-		return ream_spare_write(at[0], len[0], number[0], number[1], number[2], at[1], len[1]);
-	case SPARE_READ:
-		return ream_spare_read(at[0], len[0], at[1], len[1]);
-	case PAGE_READ:
-		return ream_page_read(at[0], len[0], at[1], len[1], at[2], len[2]);
-	case FIRST_BITMAP:
-		return ream_first_bitmap(number[0], at[0], len[0], at[1], len[1]);
-	case TABLE_READ:
-		return ream_table_read(number[0], at[0], len[0], at[1], len[1], at[2], len[2]);
-	case UPDATE_PLAN:
-		return ream_update_plan(number[0], at[0], len[0], at[1], len[1], at[2], len[2], at[3], len[3]);
-	case RECOVERY_PLAN:
-		return ream_recovery_plan(number[0], at[0], len[0], at[1], len[1], at[2], len[2]);
-	case UPDATE_PAGE:
-		return ream_update_page(number[0], at[0], len[0], at[1], len[1], at[2], len[2], number[1],
-					at[3], len[3]);
-	case RECOVERY_PAGE:
-		return ream_recovery_page(number[0], at[0], len[0], at[1], len[1], number[1], at[2], len[2]);
-	default:
-		return UINT64_MAX;
-	}
-}
 
 static void compare_fenced(struct fuzz *fuzz, bool at_end)
 {
@@ -219,10 +196,12 @@ static void compare_fenced(struct fuzz *fuzz, bool at_end)
 	const struct call *call = &test->call;
 	const unsigned buffers = entries[call->index].buffers;
 	uint8_t *at[MOST_BUFFERS];
+	uint64_t answer;
 
 	for (unsigned i = 0; i < buffers; i++)
 		at[i] = fence_lend(&fuzz->fence[i], call->bytes[i], lent_held(call->len[i]), at_end);
-	expect(test, call_fenced(call, at) == test->answer, "the answer on fenced buffers");
+	answer = entries[call->index].library(call->number, at, call->len);
+	expect(test, answer == test->answer, "the answer on fenced buffers");
 	for (unsigned i = 0; i < buffers; i++)
 		expect(test, memcmp(at[i], call_left(test, i), lent_held(call->len[i])) == 0,
 		       "what fenced buffers hold");

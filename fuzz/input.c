@@ -3,7 +3,7 @@
 
 #include <string.h>
 
-#include "../host/draw.h"
+#include "draw.h"
 
 enum { FF, ZERO, DRAWN, REPEATED };
 

@@ -134,8 +134,12 @@
 #include <stddef.h>
 #include <stdint.h>
 
-/* The library's own version. (ream_version() gives that of a table or a plan.) */
+/*
+ * The library's own version, as text and as a number to compare: 10,000 * major + 100 * minor + patch.
+ * (ream_version() gives that of a table or a plan.)
+ */
 #define REAM_LIBRARY_VERSION "1.0"
+#define REAM_LIBRARY_VERSION_NUMBER 10000
 
 /* The refusals. */
 enum ream_refusal_number {

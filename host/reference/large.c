@@ -1,5 +1,5 @@
 /*
- * The large chip, straight from document 01, in its order and its words, as reference.c has the small page.
+ * The large chip, straight from document 01, in its order and its words, as small.c has the small page.
  * Nothing here is shared with the library, not even its header.
  *
  * Reading a table, planning an update and its page images are the benchmark's yardstick besides, so they do

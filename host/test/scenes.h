@@ -1,10 +1,6 @@
 /*
- * Regions made to order, and what document 01 says of each.
- *
- * A cast says what each block of a region is to be and how the two kinds' versions and tables stand to each
- * other. scene_build() makes such a region, with the bytes that are left open drawn. expect_cast() calls the
- * region's entries on it and expects the outcome that follows from the cast alone, with no look at a byte of
- * the region: a second opinion beside the reference's.
+ * Regions made to order. A cast says what each block of a region is to be and how the two kinds' versions and
+ * tables stand to each other. scene_build() makes such a region, with the bytes that are left open drawn.
  */
 #ifndef SCENES_H
 #define SCENES_H
@@ -39,6 +35,30 @@ struct cast {
 	enum way way;		/* and how */
 };
 
+/* Numbers of blocks at which something changes: the ends of the range, and P from 1 to 4. */
+enum { SIZES = 15 };
+
+extern const uint64_t sizes[SIZES];
+
+/* Numbers that are no number of blocks. */
+enum { NO_SIZES = 39 };
+
+extern const uint64_t no_sizes[NO_SIZES];
+
+/* One for each P, with last pages full, almost full and almost empty. */
+extern const uint64_t size_by_pages[MOST_PAGES];
+
+/* The entries that read a table, plan and give pages. */
+enum { REGION_ENTRIES = 5 };
+
+extern const enum entry_index region_entries[REGION_ENTRIES];
+
+/* The pairs of different blocks that primary and mirror can stand in. */
+enum { PLACEMENTS = 12 };
+
+/* Casts that are refused each in its way, and one that is not. */
+enum { TROUBLES = 12 };
+
 /* What the large chip's entries are lent, and the tables in it. */
 struct scene {
 	struct region region;
@@ -51,6 +71,11 @@ struct scene {
 
 /* A cast of a settled pair in these blocks, the others blank. */
 struct cast cast_settled(uint64_t n, unsigned primary, unsigned mirror, uint8_t version);
+
+/* The same in pair i of blocks. */
+struct cast cast_placed(uint64_t n, unsigned i, uint8_t version);
+
+struct cast cast_troubled(uint64_t n, unsigned trouble);
 
 /* Draws the page and the way of a cast's spoilt copies. */
 void cast_draw_spoilt(struct test *test, struct cast *cast);
@@ -65,8 +90,7 @@ void scene_build_changing(struct test *test, struct scene *scene, const struct c
  * write. */
 void scene_rebuild(struct test *test, struct scene *scene, const struct cast *cast);
 
-/* Does an entry take a wanted bitmap? Does it take a step's number, and give a page? */
-bool takes_wanted(enum entry_index index);
+/* Does an entry take a step's number, and give a page? */
 bool gives_page(enum entry_index index);
 
 /* Draws anew every byte of the region that must not count. */
@@ -77,16 +101,5 @@ void scene_set_up(struct test *test, enum entry_index index, const void *inputs)
 
 /* Makes it. */
 uint64_t scene_call(struct test *test, enum entry_index index, const struct scene *scene);
-
-/* Does an update change anything: is an entry good in `old` and not good in `wanted`? */
-bool update_changes(const uint8_t *old, const uint8_t *wanted, uint64_t n);
-
-/* The outcome of each of the region's entries. The pages of a plan's steps are asked for one after the other,
- * and a few past its end. */
-void expect_cast(struct test *test, struct scene *scene, const struct cast *cast);
-
-/* The same, and then the plans are carried out, with a table of the test's own making: the pair is settled
- * and holds that table. The scene's region is lost. */
-void expect_cast_carried_out(struct test *test, struct scene *scene, const struct cast *cast);
 
 #endif

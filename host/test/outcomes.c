@@ -1,29 +1,12 @@
-/* Regions made to order, and what document 01 says of each. */
-#include "scenes.h"
+/* What document 01 says of a region made to order. */
+#include "outcomes.h"
 
 #include <string.h>
 
 #include "draw.h"
 #include "reamsickle.h"
 
-/* ---- casts */
-
-struct cast cast_settled(uint64_t n, unsigned primary, unsigned mirror, uint8_t version)
-{
-	struct cast cast = { n, { BLANK, BLANK, BLANK, BLANK }, { version, version }, true, 0, UNREADABLE };
-
-	cast.role[primary] = GOOD_PRIMARY;
-	cast.role[mirror] = GOOD_MIRROR;
-	return cast;
-}
-
-void cast_draw_spoilt(struct test *test, struct cast *cast)
-{
-	const unsigned pages = ream_table_pages(cast->n);
-
-	cast->page = (unsigned)draw_below(&test->state, pages);
-	cast->way = drawn_way(&test->state, pages);
-}
+/* ---- outcomes */
 
 static bool is_good(enum role role, enum kind kind)
 {
@@ -31,155 +14,6 @@ static bool is_good(enum role role, enum kind kind)
 		return role == GOOD_MIRROR;
 	return role == GOOD_PRIMARY || role == MARKED_PRIMARY;
 }
-
-/* ---- building */
-
-/* Spoils the page of a copy of a kind. Where its block's first page is unreadable or still signed, a mark
- * there does not count, so one is set by chance. */
-static void spoil(struct test *test, struct region *region, unsigned block, enum kind kind,
-		  const struct cast *cast)
-{
-	const bool first_unsigned = cast->page == 0 && (cast->way == BLANKED || cast->way == WRONG_SIGNATURE);
-
-	drawn_spoil(&test->state, region, block, cast->page, kind, cast->way);
-	if (!first_unsigned && draw_below(&test->state, 2) == 0)
-		region_oob(region, block, 0)[0] = 0;
-}
-
-/* A block with a mark and no signature on its first page: blank otherwise, or with drawn bytes there, or
- * with a copy whose first page alone has lost its signature. */
-static void mark(struct test *test, struct scene *scene, unsigned block, const struct cast *cast)
-{
-	struct region *region = &scene->region;
-	uint8_t *oob = region_oob(region, block, 0);
-
-	switch (draw_below(&test->state, 3)) {
-	case 0:
-		break;
-	case 1:
-		draw_bytes(&test->state, oob, PAGE_OOB);
-		oob[SIGNATURE] = 0;
-		break;
-	default:
-		region_copy(region, block, PRIMARY, cast->version[PRIMARY], scene->table[PRIMARY]);
-		oob[SIGNATURE + draw_below(&test->state, 4)] ^= (uint8_t)(1 << draw_below(&test->state, 8));
-		break;
-	}
-	oob[0] = 0;
-}
-
-static void play(struct test *test, struct scene *scene, unsigned block, const struct cast *cast)
-{
-	const enum role role = cast->role[block];
-	const enum kind kind = role == GOOD_MIRROR || role == SPOILT_MIRROR ? MIRROR : PRIMARY;
-	struct region *region = &scene->region;
-
-	switch (role) {
-	case GOOD_PRIMARY:
-	case GOOD_MIRROR:
-		region_copy(region, block, kind, cast->version[kind], scene->table[kind]);
-		break;
-	case MARKED_PRIMARY:
-		region_copy(region, block, kind, cast->version[kind], scene->table[kind]);
-		region_oob(region, block, 0)[0] = 0;
-		break;
-	case BLANK:
-		break;
-	case MARKED:
-		mark(test, scene, block, cast);
-		break;
-	case MARKED_UNREADABLE:
-		mark(test, scene, block, cast);
-		*region_status(region, block, 0) = 1;
-		break;
-	case MARKED_LATER:
-		for (unsigned page = 1; page < region->pages; page++)
-			region_oob(region, block, page)[0] = 0;
-		break;
-	case SPOILT_PRIMARY:
-	case SPOILT_MIRROR:
-		region_copy(region, block, kind, cast->version[kind], scene->table[kind]);
-		spoil(test, region, block, kind, cast);
-		break;
-	case ROLES:
-		break;
-	}
-}
-
-void scene_rebuild(struct test *test, struct scene *scene, const struct cast *cast)
-{
-	scene->step = 1;
-	region_begin(&scene->region, cast->n);
-	for (unsigned block = 0; block < REGION_BLOCKS; block++)
-		play(test, scene, block, cast);
-}
-
-void scene_build(struct test *test, struct scene *scene, const struct cast *cast)
-{
-	const size_t len = (size_t)cast->n / 4;
-
-	drawn_table(&test->state, scene->table[PRIMARY], cast->n);
-	memcpy(scene->table[MIRROR], scene->table[PRIMARY], len);
-	if (!cast->equal)
-		scene->table[MIRROR][draw_below(&test->state, len)] ^= (uint8_t)(1 << draw_below(&test->state, 8));
-	drawn_table(&test->state, scene->wanted, cast->n);
-	memset(scene->marks, 0xFF, (size_t)cast->n);
-	scene->marks[draw_below(&test->state, cast->n)] = 0;
-	scene_rebuild(test, scene, cast);
-}
-
-void scene_build_changing(struct test *test, struct scene *scene, const struct cast *cast)
-{
-	scene_build(test, scene, cast);
-	scene->table[PRIMARY][0] = scene->table[MIRROR][0] = 0xFF;
-	scene->wanted[0] = 0x27;
-	if (!cast->equal)
-		scene->table[MIRROR][1] = (uint8_t)~scene->table[PRIMARY][1];
-	scene_rebuild(test, scene, cast);
-}
-
-void scene_stir(struct test *test, struct scene *scene)
-{
-	drawn_stir(&test->state, &scene->region);
-}
-
-/* ---- calls */
-
-bool takes_wanted(enum entry_index index)
-{
-	return index == UPDATE_PLAN || index == UPDATE_PAGE;
-}
-
-bool gives_page(enum entry_index index)
-{
-	return index == UPDATE_PAGE || index == RECOVERY_PAGE;
-}
-
-void scene_set_up(struct test *test, enum entry_index index, const void *inputs)
-{
-	const struct scene *scene = inputs;
-	const struct region *region = &scene->region;
-
-	call_begin_large(test, index, region->n);
-	if (index == FIRST_BITMAP) {
-		call_lend(test, 0, scene->marks, (size_t)region->n);
-		return;
-	}
-	call_lend(test, 0, region->image, region_image_len(region));
-	call_lend(test, 1, region->status, region_status_len(region));
-	if (takes_wanted(index))
-		call_lend(test, 2, scene->wanted, (size_t)region->n / 4);
-	if (gives_page(index))
-		test->call.number[1] = scene->step;
-}
-
-uint64_t scene_call(struct test *test, enum entry_index index, const struct scene *scene)
-{
-	scene_set_up(test, index, scene);
-	return call_compare(test);
-}
-
-/* ---- outcomes */
 
 /* A plan: the copies that it makes, one after the other. */
 struct plan {
@@ -271,7 +105,8 @@ static struct outcome outcome_of(struct scene *scene, const struct cast *cast)
 	return outcome;
 }
 
-bool update_changes(const uint8_t *old, const uint8_t *wanted, uint64_t n)
+/* Does an update change anything: is an entry good in `old` and not good in `wanted`? */
+static bool update_changes(const uint8_t *old, const uint8_t *wanted, uint64_t n)
 {
 	for (uint64_t block = 0; block < n; block++)
 		if (ream_entry_get(old, block) == REAM_ENTRY_GOOD && ream_entry_get(wanted, block) != REAM_ENTRY_GOOD)

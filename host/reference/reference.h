@@ -1,6 +1,6 @@
 /*
  * The entries of the library once more, written straight from document 01 for the host programs to
- * compare with: the small chip's in reference.c, the large chip's in reference_large.c. Parameters and
+ * compare with: the small chip's in small.c, the large chip's in large.c. Parameters and
  * answers are those of the entries in include/reamsickle.h.
  */
 #ifndef REFERENCE_H

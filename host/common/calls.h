@@ -8,7 +8,7 @@
  * call_lend(), or a store to the call's numbers, lengths and bytes, sets the rest; call_compare() makes the
  * call both ways.
  *
- * An entry is a row of the table `entries`. A new entry of the library is a new row.
+ * An entry is a row of the table `entries`. A new entry of the library is a new row, at its end.
  */
 #ifndef CALLS_H
 #define CALLS_H
@@ -26,12 +26,11 @@ enum {
 	SHOWN_BYTES = 16,	/* a message shows so many bytes of a buffer */
 };
 
-/* The small chip's entries, then the large chip's, which take N as their first number. */
+/* The entries. The inputs of fuzz/corpus have these numbers, so a new entry goes to the end. */
 enum entry_index {
 	HALF_CODE, SPARE_WRITE, SPARE_READ, PAGE_READ,
 	FIRST_BITMAP, TABLE_READ, UPDATE_PLAN, RECOVERY_PLAN, UPDATE_PAGE, RECOVERY_PAGE,
 	ENTRIES,
-	SMALL_ENTRIES = FIRST_BITMAP,
 };
 
 enum direction { IN, OUT, IN_OUT };
@@ -39,8 +38,8 @@ enum direction { IN, OUT, IN_OUT };
 /* What a buffer's length is counted in. */
 enum unit { BYTE, BLOCK_OF_CHIP, BYTE_OF_BITMAP, PAGE_OF_REGION };
 
-/* An entry with its numbers and its buffers in arrays, each in the order of the parameters. */
-typedef uint64_t entry_call(const uint64_t *number, struct lent *buffer);
+/* An entry with its numbers, its buffers and their lengths in arrays, each in the order of the parameters. */
+typedef uint64_t entry_call(const uint64_t *number, uint8_t *const *at, const size_t *len);
 
 struct entry {
 	const char *name;
@@ -59,6 +58,10 @@ struct entry {
 
 extern const struct entry entries[ENTRIES];
 
+/* Has an entry a number, or a buffer, of this name? The large chip's entries have "n", as their first number. */
+bool has_number(enum entry_index index, const char *name);
+bool has_buffer(enum entry_index index, const char *name);
+
 /* What a call is made with. */
 struct call {
 	enum entry_index index;
@@ -70,6 +73,8 @@ struct call {
 struct test {
 	const char *trying;		/* what is being tried, for messages */
 	uint64_t state;			/* of draw() */
+	uint64_t one_in;		/* of the rounds of a long trial one in so many is made; 0: all */
+	uint64_t round;			/* of long trials, counted */
 	uint64_t calls[ENTRIES];	/* calls compared */
 	uint64_t differences;
 	struct call call;		/* the last call, as it was made */
@@ -87,6 +92,10 @@ void call_begin_large(struct test *test, enum entry_index index, uint64_t n);
 /* Sets the first bytes of buffer i. */
 void call_lend(struct test *test, unsigned i, const uint8_t *bytes, size_t len);
 
+/* The same of the buffer, or the number, of this name, if the entry has it and it is no output. */
+void call_lend_named(struct test *test, const char *name, const uint8_t *bytes, size_t len);
+void call_set_named(struct test *test, const char *name, uint64_t number);
+
 /* Gives the library's answer. */
 uint64_t call_compare(struct test *test);
 
@@ -98,6 +107,9 @@ void expect(struct test *test, bool holds, const char *what);
 
 /* Expects the library's last answer to be this one. */
 void expect_answer(struct test *test, uint64_t answer, const char *what);
+
+/* Is this round of a long trial left out? */
+bool left_out(struct test *test);
 
 /* Prints how many calls were compared and how many differences were found; gives the exit status. */
 int test_end(const struct test *test);

@@ -10,117 +10,38 @@
 #include "reamsickle.h"
 #include "reference.h"
 
-/* ---- the entries. A buffer stands in a call as its bytes and the length told. */
+/* ---- the entries */
 
-#define LENT(i) lent_bytes(&buffer[i]), buffer[i].len
-
-static uint64_t library_half_code(const uint64_t *number, struct lent *buffer)
-{
-	(void)number;
-	return ream_half_code(LENT(0), LENT(1));
+/* Defines the calls of an entry, by the library and by the reference, with these arguments. */
+#define CALLS(entry, ...)									\
+static uint64_t library_##entry(const uint64_t *number, uint8_t *const *at, const size_t *len)	\
+{												\
+	(void)number;										\
+	return ream_##entry(__VA_ARGS__);							\
+}												\
+												\
+static uint64_t reference_##entry(const uint64_t *number, uint8_t *const *at, const size_t *len) \
+{												\
+	(void)number;										\
+	return ref_##entry(__VA_ARGS__);							\
 }
 
-static uint64_t reference_half_code(const uint64_t *number, struct lent *buffer)
-{
-	(void)number;
-	return ref_half_code(LENT(0), LENT(1));
-}
+/* A buffer stands in a call as its bytes and the length told. */
+#define LENT(i) at[i], len[i]
 
-static uint64_t library_spare_write(const uint64_t *number, struct lent *buffer)
-{
-	return ream_spare_write(LENT(0), number[0], number[1], number[2], LENT(1));
-}
-
-static uint64_t reference_spare_write(const uint64_t *number, struct lent *buffer)
-{
-	return ref_spare_write(LENT(0), number[0], number[1], number[2], LENT(1));
-}
-
-static uint64_t library_spare_read(const uint64_t *number, struct lent *buffer)
-{
-	(void)number;
-	return ream_spare_read(LENT(0), LENT(1));
-}
-
-static uint64_t reference_spare_read(const uint64_t *number, struct lent *buffer)
-{
-	(void)number;
-	return ref_spare_read(LENT(0), LENT(1));
-}
-
-static uint64_t library_page_read(const uint64_t *number, struct lent *buffer)
-{
-	(void)number;
-	return ream_page_read(LENT(0), LENT(1), LENT(2));
-}
-
-static uint64_t reference_page_read(const uint64_t *number, struct lent *buffer)
-{
-	(void)number;
-	return ref_page_read(LENT(0), LENT(1), LENT(2));
-}
-
-static uint64_t library_first_bitmap(const uint64_t *number, struct lent *buffer)
-{
-	return ream_first_bitmap(number[0], LENT(0), LENT(1));
-}
-
-static uint64_t reference_first_bitmap(const uint64_t *number, struct lent *buffer)
-{
-	return ref_first_bitmap(number[0], LENT(0), LENT(1));
-}
-
-static uint64_t library_table_read(const uint64_t *number, struct lent *buffer)
-{
-	return ream_table_read(number[0], LENT(0), LENT(1), LENT(2));
-}
-
-static uint64_t reference_table_read(const uint64_t *number, struct lent *buffer)
-{
-	return ref_table_read(number[0], LENT(0), LENT(1), LENT(2));
-}
-
-static uint64_t library_update_plan(const uint64_t *number, struct lent *buffer)
-{
-	return ream_update_plan(number[0], LENT(0), LENT(1), LENT(2), LENT(3));
-}
-
-static uint64_t reference_update_plan(const uint64_t *number, struct lent *buffer)
-{
-	return ref_update_plan(number[0], LENT(0), LENT(1), LENT(2), LENT(3));
-}
-
-static uint64_t library_recovery_plan(const uint64_t *number, struct lent *buffer)
-{
-	return ream_recovery_plan(number[0], LENT(0), LENT(1), LENT(2));
-}
-
-static uint64_t reference_recovery_plan(const uint64_t *number, struct lent *buffer)
-{
-	return ref_recovery_plan(number[0], LENT(0), LENT(1), LENT(2));
-}
-
-static uint64_t library_update_page(const uint64_t *number, struct lent *buffer)
-{
-	return ream_update_page(number[0], LENT(0), LENT(1), LENT(2), number[1], LENT(3));
-}
-
-static uint64_t reference_update_page(const uint64_t *number, struct lent *buffer)
-{
-	return ref_update_page(number[0], LENT(0), LENT(1), LENT(2), number[1], LENT(3));
-}
-
-static uint64_t library_recovery_page(const uint64_t *number, struct lent *buffer)
-{
-	return ream_recovery_page(number[0], LENT(0), LENT(1), number[1], LENT(2));
-}
-
-static uint64_t reference_recovery_page(const uint64_t *number, struct lent *buffer)
-{
-	return ref_recovery_page(number[0], LENT(0), LENT(1), number[1], LENT(2));
-}
+CALLS(half_code, LENT(0), LENT(1))
+CALLS(spare_write, LENT(0), number[0], number[1], number[2], LENT(1))
+CALLS(spare_read, LENT(0), LENT(1))
+CALLS(page_read, LENT(0), LENT(1), LENT(2))
+CALLS(first_bitmap, number[0], LENT(0), LENT(1))
+CALLS(table_read, number[0], LENT(0), LENT(1), LENT(2))
+CALLS(update_plan, number[0], LENT(0), LENT(1), LENT(2), LENT(3))
+CALLS(recovery_plan, number[0], LENT(0), LENT(1), LENT(2))
+CALLS(update_page, number[0], LENT(0), LENT(1), LENT(2), number[1], LENT(3))
+CALLS(recovery_page, number[0], LENT(0), LENT(1), number[1], LENT(2))
 
 #undef LENT
+#undef CALLS
 
 /* Buffers that several entries take. */
 #define IMAGE { "image", 2112, PAGE_OF_REGION, IN }
@@ -188,6 +109,36 @@ const struct entry entries[ENTRIES] = {
 #undef STEPS
 #undef PAGE
 
+/* Where an entry has the number of this name; past its numbers if it has none. */
+static unsigned number_place(enum entry_index index, const char *name)
+{
+	unsigned i = 0;
+
+	while (i < entries[index].numbers && strcmp(entries[index].number_name[i], name) != 0)
+		i++;
+	return i;
+}
+
+/* The same of a buffer. */
+static unsigned buffer_place(enum entry_index index, const char *name)
+{
+	unsigned i = 0;
+
+	while (i < entries[index].buffers && strcmp(entries[index].buffer[i].name, name) != 0)
+		i++;
+	return i;
+}
+
+bool has_number(enum entry_index index, const char *name)
+{
+	return number_place(index, name) < entries[index].numbers;
+}
+
+bool has_buffer(enum entry_index index, const char *name)
+{
+	return buffer_place(index, name) < entries[index].buffers;
+}
+
 /* ---- messages */
 
 /* A buffer's name, its length and its first bytes, as they were lent. */
@@ -226,7 +177,7 @@ static void show_call(const struct test *test)
 		printf("    %-10s%" PRIX64 " hex\n", entry->number_name[i], call->number[i]);
 	for (unsigned i = 0; i < entry->buffers; i++)
 		show_buffer(entry->buffer[i].name, call->bytes[i], call->len[i]);
-	if (call->index >= TABLE_READ)
+	if (has_buffer(call->index, "image"))
 		show_region(call);
 	printf("    answer    %" PRIX64 " hex, reference %" PRIX64 " hex\n", test->answer,
 	       test->reference_answer);
@@ -262,6 +213,11 @@ static void expect_bytes(struct test *test, unsigned i, const uint8_t *other, co
 	snprintf(what, sizeof(what), "%s byte %zu is %02X, %s %02X", entries[test->call.index].buffer[i].name, at,
 		 bytes[at], whose, other[at]);
 	expect(test, false, what);
+}
+
+bool left_out(struct test *test)
+{
+	return test->one_in > 1 && test->round++ % test->one_in != 0;
 }
 
 int test_end(const struct test *test)
@@ -318,23 +274,49 @@ void call_lend(struct test *test, unsigned i, const uint8_t *bytes, size_t len)
 	memcpy(test->call.bytes[i], bytes, len);
 }
 
+void call_lend_named(struct test *test, const char *name, const uint8_t *bytes, size_t len)
+{
+	const struct entry *entry = &entries[test->call.index];
+	const unsigned i = buffer_place(test->call.index, name);
+
+	if (i < entry->buffers && entry->buffer[i].direction != OUT)
+		call_lend(test, i, bytes, len);
+}
+
+void call_set_named(struct test *test, const char *name, uint64_t number)
+{
+	const unsigned i = number_place(test->call.index, name);
+
+	if (i < entries[test->call.index].numbers)
+		test->call.number[i] = number;
+}
+
 const uint8_t *call_left(struct test *test, unsigned i)
 {
 	return lent_bytes(&test->library[i]);
+}
+
+/* Makes the call on copies of its bytes between guards. */
+static uint64_t call_between_guards(const struct test *test, entry_call *make, struct lent *buffers)
+{
+	const struct call *call = &test->call;
+	const uint8_t turn = (uint8_t)test->calls[call->index];
+	uint8_t *at[MOST_BUFFERS];
+
+	for (unsigned i = 0; i < entries[call->index].buffers; i++) {
+		lent_set(&buffers[i], call->bytes[i], call->len[i], turn);
+		at[i] = lent_bytes(&buffers[i]);
+	}
+	return make(call->number, at, call->len);
 }
 
 uint64_t call_compare(struct test *test)
 {
 	const struct call *call = &test->call;
 	const struct entry *entry = &entries[call->index];
-	const uint8_t turn = (uint8_t)test->calls[call->index];
 
-	for (unsigned i = 0; i < entry->buffers; i++) {
-		lent_set(&test->library[i], call->bytes[i], call->len[i], turn);
-		lent_set(&test->reference[i], call->bytes[i], call->len[i], turn);
-	}
-	test->answer = entry->library(call->number, test->library);
-	test->reference_answer = entry->reference(call->number, test->reference);
+	test->answer = call_between_guards(test, entry->library, test->library);
+	test->reference_answer = call_between_guards(test, entry->reference, test->reference);
 	test->calls[call->index]++;
 
 	expect(test, test->answer == test->reference_answer, "the answer");

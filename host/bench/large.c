@@ -1,0 +1,207 @@
+/* The large chip's entries, timed. */
+#include "bench.h"
+
+#include <inttypes.h>
+#include <stdio.h>
+#include <string.h>
+
+#include "draw.h"
+#include "reamsickle.h"
+
+enum {
+	FEWEST_CALLS = 1024,	/* that a timing makes, where a call is short */
+	SHORT_CALL = 1024,	/* a call on a chip of fewer blocks is */
+};
+
+/* ---- what a round is lent */
+
+static void lend_regions(struct bench *bench, enum state state)
+{
+	memcpy(bench->region, bench->prepared[state], sizeof(bench->region));
+}
+
+static void lend_settled(struct bench *bench)
+{
+	lend_regions(bench, SETTLED);
+}
+
+static void lend_behind(struct bench *bench)
+{
+	lend_regions(bench, BEHIND);
+}
+
+static void lend_alone(struct bench *bench)
+{
+	lend_regions(bench, ALONE);
+}
+
+static void lend_differing(struct bench *bench)
+{
+	lend_regions(bench, DIFFERING);
+}
+
+static void lend_marks(struct bench *bench)
+{
+	memcpy(bench->marks, bench->factory, sizeof(bench->marks));
+}
+
+/* ---- a round of each entry. A region stands in a call as its image and its status. */
+
+#define LENT(region) \
+	(region)->n, (region)->image, region_image_len(region), (region)->status, region_status_len(region)
+
+static unsigned round_first_bitmap(struct bench *bench, const struct implementation *by)
+{
+	unsigned refusals = 0;
+
+	for (unsigned i = 0; i < REGIONS; i++)
+		refusals |= ream_refusal(by->first_bitmap(bench->n, bench->marks[i], (size_t)bench->n,
+							  bench->bitmap, bench->bitmap_len));
+	return refusals;
+}
+
+static unsigned round_table_read(struct bench *bench, const struct implementation *by)
+{
+	unsigned refusals = 0;
+
+	for (unsigned i = 0; i < REGIONS; i++)
+		refusals |= ream_refusal(by->table_read(LENT(&bench->region[i]),
+							bench->bitmap, bench->bitmap_len));
+	return refusals;
+}
+
+static unsigned plan_updates(struct bench *bench, const struct implementation *by,
+			     uint8_t (*wanted)[MOST_BITMAP])
+{
+	unsigned refusals = 0;
+
+	for (unsigned i = 0; i < REGIONS; i++)
+		refusals |= ream_refusal(by->update_plan(LENT(&bench->region[i]), wanted[i], bench->bitmap_len,
+							 bench->steps, 64));
+	return refusals;
+}
+
+static unsigned round_update_plan(struct bench *bench, const struct implementation *by)
+{
+	return plan_updates(bench, by, bench->wanted);
+}
+
+static unsigned round_empty_plan(struct bench *bench, const struct implementation *by)
+{
+	return plan_updates(bench, by, bench->same);
+}
+
+static unsigned round_recovery_plan(struct bench *bench, const struct implementation *by)
+{
+	unsigned refusals = 0;
+
+	for (unsigned i = 0; i < REGIONS; i++)
+		refusals |= ream_refusal(by->recovery_plan(LENT(&bench->region[i]), bench->steps, 64));
+	return refusals;
+}
+
+/* The pages of the plan's first copy, in turn. */
+static unsigned round_update_page(struct bench *bench, const struct implementation *by)
+{
+	unsigned refusals = 0;
+
+	for (unsigned i = 0; i < REGIONS; i++) {
+		const struct region *region = &bench->region[i];
+
+		refusals |= ream_refusal(by->update_page(LENT(region), bench->wanted[i], bench->bitmap_len,
+							 1 + i % region->pages, bench->page, PAGE_BYTES));
+	}
+	return refusals;
+}
+
+static unsigned round_recovery_page(struct bench *bench, const struct implementation *by)
+{
+	unsigned refusals = 0;
+
+	for (unsigned i = 0; i < REGIONS; i++) {
+		const struct region *region = &bench->region[i];
+
+		refusals |= ream_refusal(by->recovery_page(LENT(region), 1 + i % region->pages,
+							   bench->page, PAGE_BYTES));
+	}
+	return refusals;
+}
+
+#undef LENT
+
+/* ---- the trials */
+
+static const struct trial large_trials[] = {
+	{ "ream_first_bitmap", "marks", lend_marks, round_first_bitmap },
+	{ "ream_table_read", "settled pairs", lend_settled, round_table_read },
+	{ "ream_update_plan", "settled pairs, one entry changed", lend_settled, round_update_plan },
+	{ "ream_update_plan", "settled pairs, nothing changed", lend_settled, round_empty_plan },
+	{ "ream_update_page", "settled pairs, one entry changed", lend_settled, round_update_page },
+	{ "ream_recovery_plan", "settled pairs: nothing to do", lend_settled, round_recovery_plan },
+	{ "ream_recovery_plan", "mirror one version behind", lend_behind, round_recovery_plan },
+	{ "ream_recovery_plan", "primary alone", lend_alone, round_recovery_plan },
+	{ "ream_recovery_plan", "versions equal, bitmaps different", lend_differing, round_recovery_plan },
+	{ "ream_recovery_page", "mirror one version behind", lend_behind, round_recovery_page },
+	{ "ream_recovery_page", "primary alone", lend_alone, round_recovery_page },
+	{ "ream_recovery_page", "versions equal, bitmaps different", lend_differing, round_recovery_page },
+};
+
+enum { TRIALS = sizeof(large_trials) / sizeof(large_trials[0]) };
+
+/* ---- preparing */
+
+/* The region of one state, with the table in it, and in an older copy the table before. */
+static void prepare_region(struct region *region, enum state state, const unsigned *block, uint8_t version,
+			   const uint8_t *table, const uint8_t *before)
+{
+	region_begin(region, region->n);
+	region_copy(region, block[PRIMARY], PRIMARY, version, table);
+	if (state == SETTLED)
+		region_copy(region, block[MIRROR], MIRROR, version, table);
+	else if (state == BEHIND)
+		region_copy(region, block[MIRROR], MIRROR, (uint8_t)(version - 1), before);
+	else if (state == DIFFERING)
+		region_copy(region, block[MIRROR], MIRROR, version, before);
+}
+
+/* Draws regions of a chip with n blocks, each copy in a block of its own, with some blocks that are not good;
+ * and for each a good block that is to be marked late, and the factory's marks of a chip. */
+static void prepare_regions(struct bench *bench, uint64_t n, uint64_t state)
+{
+	bench->n = n;
+	bench->bitmap_len = ream_bitmap_size(n);
+	for (unsigned i = 0; i < REGIONS; i++) {
+		const unsigned primary = (unsigned)draw_below(&state, REGION_BLOCKS);
+		const unsigned mirror = (primary + 1 + (unsigned)draw_below(&state, 3)) % REGION_BLOCKS;
+		const unsigned block[KINDS] = { primary, mirror };
+		const uint8_t version = (uint8_t)draw(&state);
+		const uint64_t changed = draw_below(&state, n);
+
+		memset(bench->same[i], 0xFF, bench->bitmap_len);
+		memset(bench->factory[i], 0xFF, (size_t)n);
+		for (uint64_t k = 0; k < n / 160; k++) {
+			const uint64_t bad = draw_below(&state, n);
+
+			ream_entry_set(bench->same[i], bad, (unsigned)draw_below(&state, 3));
+			bench->factory[i][bad] = 0;
+		}
+		ream_entry_set(bench->same[i], changed, REAM_ENTRY_GOOD);
+		memcpy(bench->wanted[i], bench->same[i], bench->bitmap_len);
+		ream_entry_set(bench->wanted[i], changed, REAM_ENTRY_LATE);
+		for (unsigned k = 0; k < STATES; k++) {
+			bench->prepared[k][i].n = n;
+			prepare_region(&bench->prepared[k][i], (enum state)k, block, version, bench->same[i],
+				       bench->wanted[i]);
+		}
+	}
+}
+
+void bench_large(struct bench *bench, uint64_t n)
+{
+	prepare_regions(bench, n, SEED);
+	printf("\nlarge chip, N = %" PRIu64 ": image %zu bytes, status %zu, bitmap %zu\n", n, ream_image_size(n),
+	       ream_status_size(n), ream_bitmap_size(n));
+	print_heads();
+	for (unsigned i = 0; i < TRIALS; i++)
+		run(bench, &large_trials[i], REGIONS, n < SHORT_CALL ? FEWEST_CALLS / REGIONS : 1);
+}

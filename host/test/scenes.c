@@ -1,0 +1,233 @@
+/* Regions made to order. */
+#include "scenes.h"
+
+#include <string.h>
+
+#include "draw.h"
+#include "reamsickle.h"
+
+const uint64_t sizes[SIZES] = {
+	8, 12, 16, 1024, 8188, 8192, 8196, 16384, 16388, 20000, 24576, 24580, 32760, 32764, 32768,
+};
+
+const uint64_t no_sizes[NO_SIZES] = {
+	0, 1, 2, 3, 4, 5, 6, 7, 9, 10, 11, 13, 14, 15, 8190, 8191, 8193, 8194, 32765, 32766, 32767, 32769, 32770,
+	32771, 32772, 32776, 65536, 65544, 131072, UINT32_MAX, ((uint64_t)1 << 32) + 8, ((uint64_t)1 << 32) + 32768,
+	((uint64_t)1 << 34) + 8, ((uint64_t)1 << 48) + 8, ((uint64_t)1 << 62) + 8, ((uint64_t)1 << 63) + 8,
+	UINT64_MAX - 7, UINT64_MAX - 3, UINT64_MAX,
+};
+
+const uint64_t size_by_pages[MOST_PAGES] = { 8, 8196, 24576, 32764 };
+
+const enum entry_index region_entries[REGION_ENTRIES] = {
+	TABLE_READ, UPDATE_PLAN, RECOVERY_PLAN, UPDATE_PAGE, RECOVERY_PAGE,
+};
+
+/* ---- casts */
+
+struct cast cast_settled(uint64_t n, unsigned primary, unsigned mirror, uint8_t version)
+{
+	struct cast cast = { n, { BLANK, BLANK, BLANK, BLANK }, { version, version }, true, 0, UNREADABLE };
+
+	cast.role[primary] = GOOD_PRIMARY;
+	cast.role[mirror] = GOOD_MIRROR;
+	return cast;
+}
+
+struct cast cast_placed(uint64_t n, unsigned i, uint8_t version)
+{
+	const unsigned primary = i / 3, mirror = i % 3;
+
+	return cast_settled(n, primary, mirror < primary ? mirror : mirror + 1, version);
+}
+
+struct cast cast_troubled(uint64_t n, unsigned trouble)
+{
+	struct cast cast = cast_settled(n, 3, 1, 40);
+
+	switch (trouble) {
+	case 1:		/* 8: two of a kind */
+		cast.role[0] = GOOD_MIRROR;
+		break;
+	case 2:		/* 8: two of a kind and none of the other */
+		cast.role[1] = GOOD_PRIMARY;
+		break;
+	case 3:		/* 8, although one of the two stands opposite to the other kind */
+		cast.role[0] = GOOD_PRIMARY;
+		cast.version[PRIMARY] += 128;
+		break;
+	case 4:		/* 7 */
+		cast.role[3] = cast.role[1] = MARKED;
+		break;
+	case 5:		/* 9 */
+		cast.version[PRIMARY] += 128;
+		cast.equal = false;
+		break;
+	case 6:		/* 10 in reading, a merge in recovery */
+		cast.equal = false;
+		break;
+	case 7:		/* 10 in reading, 11 in recovery */
+		cast.role[0] = cast.role[1] = cast.role[2] = MARKED;
+		break;
+	case 8:		/* 10 in reading, and in recovery a copy made anew: of the newer primary, .. */
+		cast.version[PRIMARY] += 127;
+		cast.equal = false;
+		break;
+	case 9:		/* .. the newer mirror, .. */
+		cast.version[MIRROR] += 127;
+		cast.equal = false;
+		break;
+	case 10:	/* .. the primary alone .. */
+		cast.role[1] = BLANK;
+		break;
+	case 11:	/* .. or the mirror alone */
+		cast.role[3] = MARKED;
+		break;
+	}
+	return cast;
+}
+
+void cast_draw_spoilt(struct test *test, struct cast *cast)
+{
+	const unsigned pages = ream_table_pages(cast->n);
+
+	cast->page = (unsigned)draw_below(&test->state, pages);
+	cast->way = drawn_way(&test->state, pages);
+}
+
+/* ---- building */
+
+/* Spoils the page of a copy of a kind. Where its block's first page is unreadable or still signed, a mark
+ * there does not count, so one is set by chance. */
+static void spoil(struct test *test, struct region *region, unsigned block, enum kind kind,
+		  const struct cast *cast)
+{
+	const bool first_unsigned = cast->page == 0 && (cast->way == BLANKED || cast->way == WRONG_SIGNATURE);
+
+	drawn_spoil(&test->state, region, block, cast->page, kind, cast->way);
+	if (!first_unsigned && draw_below(&test->state, 2) == 0)
+		region_oob(region, block, 0)[0] = 0;
+}
+
+/* A block with a mark and no signature on its first page: blank otherwise, or with drawn bytes there, or
+ * with a copy whose first page alone has lost its signature. */
+static void mark(struct test *test, struct scene *scene, unsigned block, const struct cast *cast)
+{
+	struct region *region = &scene->region;
+	uint8_t *oob = region_oob(region, block, 0);
+
+	switch (draw_below(&test->state, 3)) {
+	case 0:
+		break;
+	case 1:
+		draw_bytes(&test->state, oob, PAGE_OOB);
+		oob[SIGNATURE] = 0;
+		break;
+	default:
+		region_copy(region, block, PRIMARY, cast->version[PRIMARY], scene->table[PRIMARY]);
+		oob[SIGNATURE + draw_below(&test->state, 4)] ^= (uint8_t)(1 << draw_below(&test->state, 8));
+		break;
+	}
+	oob[0] = 0;
+}
+
+static void play(struct test *test, struct scene *scene, unsigned block, const struct cast *cast)
+{
+	const enum role role = cast->role[block];
+	const enum kind kind = role == GOOD_MIRROR || role == SPOILT_MIRROR ? MIRROR : PRIMARY;
+	struct region *region = &scene->region;
+
+	switch (role) {
+	case GOOD_PRIMARY:
+	case GOOD_MIRROR:
+		region_copy(region, block, kind, cast->version[kind], scene->table[kind]);
+		break;
+	case MARKED_PRIMARY:
+		region_copy(region, block, kind, cast->version[kind], scene->table[kind]);
+		region_oob(region, block, 0)[0] = 0;
+		break;
+	case BLANK:
+		break;
+	case MARKED:
+		mark(test, scene, block, cast);
+		break;
+	case MARKED_UNREADABLE:
+		mark(test, scene, block, cast);
+		*region_status(region, block, 0) = 1;
+		break;
+	case MARKED_LATER:
+		for (unsigned page = 1; page < region->pages; page++)
+			region_oob(region, block, page)[0] = 0;
+		break;
+	case SPOILT_PRIMARY:
+	case SPOILT_MIRROR:
+		region_copy(region, block, kind, cast->version[kind], scene->table[kind]);
+		spoil(test, region, block, kind, cast);
+		break;
+	case ROLES:
+		break;
+	}
+}
+
+void scene_rebuild(struct test *test, struct scene *scene, const struct cast *cast)
+{
+	scene->step = 1;
+	region_begin(&scene->region, cast->n);
+	for (unsigned block = 0; block < REGION_BLOCKS; block++)
+		play(test, scene, block, cast);
+}
+
+void scene_build(struct test *test, struct scene *scene, const struct cast *cast)
+{
+	const size_t len = (size_t)cast->n / 4;
+
+	drawn_table(&test->state, scene->table[PRIMARY], cast->n);
+	memcpy(scene->table[MIRROR], scene->table[PRIMARY], len);
+	if (!cast->equal)
+		scene->table[MIRROR][draw_below(&test->state, len)] ^= (uint8_t)(1 << draw_below(&test->state, 8));
+	drawn_table(&test->state, scene->wanted, cast->n);
+	memset(scene->marks, 0xFF, (size_t)cast->n);
+	scene->marks[draw_below(&test->state, cast->n)] = 0;
+	scene_rebuild(test, scene, cast);
+}
+
+void scene_build_changing(struct test *test, struct scene *scene, const struct cast *cast)
+{
+	scene_build(test, scene, cast);
+	scene->table[PRIMARY][0] = scene->table[MIRROR][0] = 0xFF;
+	scene->wanted[0] = 0x27;
+	if (!cast->equal)
+		scene->table[MIRROR][1] = (uint8_t)~scene->table[PRIMARY][1];
+	scene_rebuild(test, scene, cast);
+}
+
+void scene_stir(struct test *test, struct scene *scene)
+{
+	drawn_stir(&test->state, &scene->region);
+}
+
+/* ---- calls */
+
+bool gives_page(enum entry_index index)
+{
+	return has_number(index, "step");
+}
+
+void scene_set_up(struct test *test, enum entry_index index, const void *inputs)
+{
+	const struct scene *scene = inputs;
+	const struct region *region = &scene->region;
+
+	call_begin_large(test, index, region->n);
+	call_lend_named(test, "marks", scene->marks, (size_t)region->n);
+	call_lend_named(test, "image", region->image, region_image_len(region));
+	call_lend_named(test, "status", region->status, region_status_len(region));
+	call_lend_named(test, "wanted", scene->wanted, (size_t)region->n / 4);
+	call_set_named(test, "step", scene->step);
+}
+
+uint64_t scene_call(struct test *test, enum entry_index index, const struct scene *scene)
+{
+	scene_set_up(test, index, scene);
+	return call_compare(test);
+}

@@ -1,0 +1,195 @@
+/*
+ * The header itself: its version, the sizes of buffers, entries of bitmaps, and the functions for pointers that
+ * may be null, for which each such pointer is a wrong length.
+ */
+#include "tests.h"
+
+#include <stdio.h>
+#include <string.h>
+
+#include "reamsickle.h"
+#include "region.h"
+#include "scenes.h"
+#include "small_pages.h"
+
+/* The version as text, "major.minor" or "major.minor.patch", and as a number. */
+static void try_version(struct test *test)
+{
+	unsigned major = 0, minor = 0, patch = 0;
+	const int parts = sscanf(REAM_LIBRARY_VERSION, "%u.%u.%u", &major, &minor, &patch);
+
+	test->trying = "the library's version";
+	expect(test, parts >= 2 && minor < 100 && patch < 100 &&
+	       10000 * major + 100 * minor + patch == REAM_LIBRARY_VERSION_NUMBER,
+	       "the version as text and as a number agree");
+}
+
+static void try_sizes_of_buffers(struct test *test)
+{
+	uint64_t right = 0;
+
+	test->trying = "the header's sizes";
+	for (uint64_t n = 8; n <= 32768; n += 4) {
+		const unsigned pages = n <= 8192 ? 1 : n <= 16384 ? 2 : n <= 24576 ? 3 : 4;
+
+		right += ream_table_pages(n) == pages && ream_image_size(n) == 4 * pages * 2112 &&
+			 ream_status_size(n) == 4 * pages && ream_bitmap_size(n) == n / 4;
+	}
+	expect(test, right == 32768 / 4 - 1, "the sizes of every number of blocks");
+	for (unsigned i = 0; i < NO_SIZES; i++)
+		expect(test, ream_table_pages(no_sizes[i]) == 0 && ream_image_size(no_sizes[i]) == 0 &&
+		       ream_status_size(no_sizes[i]) == 0 && ream_bitmap_size(no_sizes[i]) == 0,
+		       "a number that is no number of blocks has sizes 0");
+	expect(test, ream_image_size(REAM_BLOCKS_MAX) == REAM_IMAGE_SIZE_MAX &&
+	       ream_status_size(REAM_BLOCKS_MAX) == REAM_STATUS_SIZE_MAX &&
+	       ream_bitmap_size(REAM_BLOCKS_MAX) == REAM_BITMAP_SIZE_MAX, "the largest sizes");
+}
+
+static void try_entries_of_bitmaps(struct test *test)
+{
+	test->trying = "the header's entries";
+	for (unsigned byte = 0; byte < 256; byte++) {
+		for (unsigned block = 0; block < 4; block++) {
+			for (unsigned entry = 0; entry < 4; entry++) {
+				uint8_t bitmap[3] = { 0x5A, (uint8_t)byte, 0x5A };
+				unsigned kept = 0;
+
+				ream_entry_set(bitmap, 4 + block, entry);
+				for (unsigned k = 0; k < 4; k++)
+					kept += k != block && ream_entry_get(bitmap, 4 + k) == (byte >> 2 * k) % 4;
+				expect(test, ream_entry_get(bitmap, 4 + block) == entry && kept == 3 &&
+				       bitmap[0] == 0x5A && bitmap[2] == 0x5A, "one entry is set and no other");
+			}
+		}
+	}
+}
+
+/* ---- pointers that may be null */
+
+/* Of the small chip's entries. */
+static void try_null_in_pages(struct test *test)
+{
+	const struct page page = page_drawn(test);
+	uint8_t data[512], code[3], spare[16], fields[11];
+	uint64_t answer;
+	bool refused;
+
+	test->trying = "null pointers";
+	memcpy(data, page.data, 512);
+	memset(code, 0x5A, 3);
+	memcpy(spare, page.spare, 16);
+	memset(fields, 0x5A, 11);
+	refused = ream_half_code_checked(NULL, 0, code, 3) == REAM_LENGTH &&
+		  ream_half_code_checked(NULL, 256, code, 3) == REAM_LENGTH &&
+		  ream_half_code_checked(data, 256, NULL, 3) == REAM_LENGTH &&
+		  ream_spare_write_checked(NULL, 512, page.tag, 0, 0, spare, 16) == REAM_LENGTH &&
+		  ream_spare_write_checked(data, 512, page.tag, 0, 0, NULL, 16) == REAM_LENGTH &&
+		  ream_spare_read_checked(NULL, 16, fields, 11) == REAM_LENGTH &&
+		  ream_spare_read_checked(spare, 16, NULL, 0) == REAM_LENGTH &&
+		  ream_page_read_checked(NULL, 512, spare, 16, fields, 11) == REAM_LENGTH &&
+		  ream_page_read_checked(data, 512, NULL, 16, fields, 11) == REAM_LENGTH &&
+		  ream_page_read_checked(data, 512, spare, 16, NULL, 11) == REAM_LENGTH &&
+		  ream_page_read_checked(NULL, 0, NULL, 0, NULL, 0) == REAM_LENGTH;
+	expect(test, refused, "a null pointer is refused as a wrong length");
+	expect(test, memcmp(data, page.data, 512) == 0 && memcmp(code, "\x5A\x5A\x5A", 3) == 0 &&
+	       memcmp(spare, page.spare, 16) == 0 && fields[0] == 0x5A && fields[10] == 0x5A,
+	       "a call refused for a null pointer changes nothing");
+
+	answer = ream_half_code_checked(data, 256, code, 3) | ream_spare_read_checked(spare, 16, fields, 11) |
+		 ream_page_read_checked(data, 512, spare, 16, fields, 11) |
+		 ream_spare_write_checked(data, 512, page.tag, page.path, page.count, spare, 16);
+	expect(test, answer == REAM_OK && memcmp(code, page.spare + 13, 3) == 0 &&
+	       memcmp(spare, page.spare, 16) == 0 && ream_fields_get(fields).path == page.path,
+	       "with no null pointer the checked functions are the entries");
+}
+
+/* Of the large chip's that read, plan and make a first bitmap. */
+static void try_null_in_regions(struct test *test, struct scene *scene)
+{
+	const struct cast cast = cast_settled(8, 1, 0, 200);
+	const uint8_t *image = scene->region.image, *status = scene->region.status;
+	const uint8_t *marks = scene->marks, *wanted = scene->wanted;
+	uint8_t bitmap[2] = { 0x5A, 0x5A };
+	uint8_t steps[64];
+	bool refused;
+
+	test->trying = "null pointers";
+	scene_build(test, scene, &cast);
+	memset(scene->wanted, 0xFF, 2);
+	memset(steps, 0x5A, 64);
+	refused = ream_first_bitmap_checked(8, NULL, 8, bitmap, 2) == REAM_LENGTH &&
+		  ream_first_bitmap_checked(8, marks, 8, NULL, 2) == REAM_LENGTH &&
+		  ream_table_read_checked(8, NULL, 8448, status, 4, bitmap, 2) == REAM_LENGTH &&
+		  ream_table_read_checked(8, image, 8448, NULL, 4, bitmap, 2) == REAM_LENGTH &&
+		  ream_table_read_checked(8, image, 8448, status, 4, NULL, 2) == REAM_LENGTH &&
+		  ream_update_plan_checked(8, NULL, 8448, status, 4, wanted, 2, steps, 64) == REAM_LENGTH &&
+		  ream_update_plan_checked(8, image, 8448, NULL, 4, wanted, 2, steps, 64) == REAM_LENGTH &&
+		  ream_update_plan_checked(8, image, 8448, status, 4, NULL, 2, steps, 64) == REAM_LENGTH &&
+		  ream_update_plan_checked(8, image, 8448, status, 4, wanted, 2, NULL, 64) == REAM_LENGTH &&
+		  ream_recovery_plan_checked(8, NULL, 8448, status, 4, steps, 64) == REAM_LENGTH &&
+		  ream_recovery_plan_checked(8, image, 8448, NULL, 4, steps, 64) == REAM_LENGTH &&
+		  ream_recovery_plan_checked(8, image, 8448, status, 4, NULL, 64) == REAM_LENGTH;
+	expect(test, refused, "a null pointer is refused as a wrong length");
+	expect(test, ream_first_bitmap_checked(4, NULL, 0, NULL, 0) == REAM_RANGE &&
+	       ream_table_read_checked(10, NULL, 0, NULL, 0, NULL, 0) == REAM_RANGE &&
+	       ream_update_plan_checked(32772, NULL, 0, NULL, 0, NULL, 0, NULL, 0) == REAM_RANGE &&
+	       ream_recovery_plan_checked(0, NULL, 0, NULL, 0, NULL, 0) == REAM_RANGE,
+	       "a wrong number of blocks is refused before a null pointer");
+	expect(test, bitmap[0] == 0x5A && bitmap[1] == 0x5A && steps[0] == 0x5A && steps[63] == 0x5A,
+	       "a call refused for a null pointer changes nothing");
+
+	expect(test, ream_table_read_checked(8, image, 8448, status, 4, bitmap, 2) ==
+	       (200 << 8 | 5 << 16 | (uint64_t)4 << 32) && memcmp(bitmap, scene->table[PRIMARY], 2) == 0 &&
+	       ream_update_plan_checked(8, image, 8448, status, 4, wanted, 2, steps, 64) == 200 << 8 &&
+	       ream_recovery_plan_checked(8, image, 8448, status, 4, steps, 64) == 200 << 8 &&
+	       ream_first_bitmap_checked(8, marks, 8, bitmap, 2) == REAM_OK &&
+	       ream_entry_get(bitmap, 7) == (marks[7] == 0 ? REAM_ENTRY_FACTORY : REAM_ENTRY_GOOD),
+	       "with no null pointer the checked functions are the entries");
+}
+
+/* Of those that give pages. */
+static void try_null_in_asking(struct test *test, struct scene *scene)
+{
+	struct cast cast = cast_settled(8, 1, 0, 200);
+	const uint8_t *image = scene->region.image, *status = scene->region.status, *wanted = scene->wanted;
+	uint8_t page[2112], asked[2112];
+	bool refused;
+
+	test->trying = "null pointers in asking for pages";
+	memset(scene->table, 0xFF, sizeof(scene->table));
+	memcpy(scene->wanted, "\x27\xFF", 2);
+	scene_rebuild(test, scene, &cast);
+	memset(page, 0x5A, sizeof(page));
+	memset(asked, 0x5A, sizeof(asked));
+	refused = ream_update_page_checked(8, NULL, 8448, status, 4, wanted, 2, 1, page, 2112) == REAM_LENGTH &&
+		  ream_update_page_checked(8, image, 8448, NULL, 4, wanted, 2, 1, page, 2112) == REAM_LENGTH &&
+		  ream_update_page_checked(8, image, 8448, status, 4, NULL, 2, 1, page, 2112) == REAM_LENGTH &&
+		  ream_update_page_checked(8, image, 8448, status, 4, wanted, 2, 1, NULL, 2112) == REAM_LENGTH &&
+		  ream_recovery_page_checked(8, NULL, 8448, status, 4, 1, page, 2112) == REAM_LENGTH &&
+		  ream_recovery_page_checked(8, image, 8448, NULL, 4, 1, page, 2112) == REAM_LENGTH &&
+		  ream_recovery_page_checked(8, image, 8448, status, 4, 1, NULL, 2112) == REAM_LENGTH;
+	expect(test, refused, "a null pointer is refused as a wrong length");
+	expect(test, ream_update_page_checked(9, NULL, 0, NULL, 0, NULL, 0, 1, NULL, 0) == REAM_RANGE &&
+	       ream_recovery_page_checked(9, NULL, 0, NULL, 0, 1, NULL, 0) == REAM_RANGE,
+	       "a wrong number of blocks is refused before a null pointer");
+	expect(test, memcmp(page, asked, sizeof(page)) == 0, "a call refused for a null pointer changes nothing");
+
+	region_lay_out(&scene->region, 0, MIRROR, 201, scene->wanted, asked);
+	expect(test, ream_update_page_checked(8, image, 8448, status, 4, wanted, 2, 3, page, 2112) == REAM_OK &&
+	       memcmp(page, asked, sizeof(page)) == 0, "with no null pointer an update's page is given");
+	cast.version[PRIMARY] = 201;
+	scene_rebuild(test, scene, &cast);
+	region_lay_out(&scene->region, 0, MIRROR, 201, scene->table[PRIMARY], asked);
+	expect(test, ream_recovery_page_checked(8, image, 8448, status, 4, 1, page, 2112) == REAM_OK &&
+	       memcmp(page, asked, sizeof(page)) == 0, "with no null pointer a recovery's page is given");
+}
+
+void test_header(struct test *test, struct scene *scene)
+{
+	try_version(test);
+	try_sizes_of_buffers(test);
+	try_entries_of_bitmaps(test);
+	try_null_in_pages(test);
+	try_null_in_regions(test, scene);
+	try_null_in_asking(test, scene);
+}

@@ -1,0 +1,99 @@
+#!/usr/bin/env bash
+# Tries an installation: what `make install` puts under a prefix serves C and C++ programs, and `make uninstall` leaves
+# no file of it. The header stands alone and gives no warning; programs are built with the flags of the pkg-config file,
+# which are read from the file itself where pkg-config is missing. A staged installation is not where its pkg-config
+# file says, so that no program is built with it.
+#
+#	host/test/test_install.sh PREFIX [DESTDIR]
+#
+# CC and CXX may name the compilers to use.
+set -euo pipefail
+cd "$(dirname "${BASH_SOURCE[0]}")/../.."
+
+# A caller's make flags (-n, -j) have no say here.
+unset MAKEFLAGS MFLAGS
+
+if [ $# -lt 1 ] || [ $# -gt 2 ]; then
+	echo "usage: host/test/test_install.sh PREFIX [DESTDIR]" >&2
+	exit 2
+fi
+prefix=$1
+destdir=${2:-}
+read -ra cc <<< "${CC:-cc}"
+read -ra cxx <<< "${CXX:-c++}"
+flags=()
+strict=(-Wall -Wextra -pedantic -Werror -Wconversion -Wsign-conversion -Wshadow)
+
+run_make() {
+	make --no-print-directory -s "$1" PREFIX="$prefix" DESTDIR="$destdir"
+}
+
+fail() {
+	echo "test_install: $1, with PREFIX=$prefix DESTDIR=$destdir" >&2
+	exit 1
+}
+
+# The flags that the pkg-config file gives, as words.
+read_flags() {
+	local text
+	if command -v pkg-config > /dev/null; then
+		text=$(PKG_CONFIG_PATH=$root/lib/pkgconfig pkg-config --cflags --libs reamsickle)
+	else
+		text=$(sed -n -e "s|\${includedir}|$full/include|" -e "s|\${libdir}|$full/lib|" \
+			-e 's/^Cflags: //p' -e 's/^Libs: //p' "$root/lib/pkgconfig/reamsickle.pc" | tr '\n' ' ')
+	fi
+	eval "flags=($text)"
+}
+
+# The header alone, a small program and the example, built elsewhere than here, so that no relative path serves.
+try_programs() (
+	local example=$PWD/host/example/example.c
+	cd "$work"
+	echo '#include <reamsickle.h>' > alone.c
+	cat > small.c <<- 'END'
+		#include <reamsickle.h>
+
+		#if REAM_LIBRARY_VERSION_NUMBER < 10000
+		#error "an older library"
+		#endif
+
+		int main(void)
+		{
+			return ream_refusal(ream_half_code_checked(NULL, 0, NULL, 0)) == REAM_LENGTH ? 0 : 1;
+		}
+	END
+	"${cc[@]}" -std=c99 "${strict[@]}" -fsyntax-only alone.c "${flags[@]}"
+	"${cc[@]}" -std=c99 "${strict[@]}" -o small_c small.c "${flags[@]}"
+	./small_c
+	"${cc[@]}" -std=c99 -Wall -Wextra -pedantic -o example "$example" "${flags[@]}"
+	./example > example.out
+	if command -v "${cxx[0]}" > /dev/null; then
+		"${cxx[@]}" -std=c++17 "${strict[@]}" -fsyntax-only -x c++ alone.c "${flags[@]}"
+		"${cxx[@]}" -std=c++17 "${strict[@]}" -o small_cxx -x c++ small.c "${flags[@]}"
+		./small_cxx
+	else
+		echo 'test_install: there is no C++ compiler, so C++ is not tried'
+	fi
+)
+
+case $prefix in
+/*) full=$prefix ;;
+*) full=$PWD/$prefix ;;
+esac
+root=$destdir$full
+work=$(mktemp -d)
+trap 'rm -rf "$work"' EXIT
+
+run_make install
+for file in include/reamsickle.h lib/libreamsickle.a lib/pkgconfig/reamsickle.pc bin/ream share/man/man1/ream.1; do
+	[ -f "$root/$file" ] || fail "there is no $file"
+done
+[ "$(sed -n 's/^prefix=//p' "$root/lib/pkgconfig/reamsickle.pc")" = "$full" ] || fail "the file's prefix is not $full"
+"$root/bin/ream" --version > /dev/null
+if [ -z "$destdir" ]; then
+	read_flags
+	try_programs
+fi
+run_make uninstall
+[ -z "$(find "$root" -type f)" ] || fail "uninstalling leaves a file"
+echo "test_install: installed, tried and uninstalled with PREFIX=$prefix DESTDIR=$destdir"
