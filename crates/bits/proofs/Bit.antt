@@ -7,7 +7,7 @@ use Prim.Native.Nat.{ℕ, zero, suc, _+_, _-_, _*_, _/_, _%_, _^_, _<_, _≤_}
 use native.Mathlib.Nat.{one-mul, mod-lt, mod-eq-of-lt, pow-suc, add-zero, zero-lt-suc, div-one, div-eq-of-lt, eq-or-lt-of-le, le-of-suc-le-suc}
 use native.Mathlib.Numerals.{one-add}
 use native.Mathlib.Omega.{arith}
-use lib.Dec.{T, eqb, eqb→eq}
+use lib.Dec.{eqb, eqb→eq}
 use lib.Pow.{pow-lt, shr-shr, field, mod-mod-pow, high, low, mod-pow-add}
 use lib.Bits.{bitAnd, and-shr, and-mod, bitXor, xor-shr, xor-mod, xor-comm, xor-self, xor-zero-r, xor-lt}
 use lib.Arith.{bin-ind}

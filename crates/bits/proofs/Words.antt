@@ -1,7 +1,7 @@
 -- Laws of words: the word of its own four bytes.
 -- Assumes nothing.
 use mathlib.Core.Path.{_≡_}
-use Prim.Native.Nat.{ℕ, _+_, _*_, _/_, _%_, _<_, _^_}
+use Prim.Native.Nat.{ℕ, _/_, _%_, _<_, _^_}
 use native.Mathlib.Nat.{div-add-mod'}
 use native.Mathlib.Omega.{arith}
 use Rattle.bits.specs.Bytes.{word, byteOf}

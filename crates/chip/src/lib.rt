@@ -145,6 +145,7 @@ pub enum BootAnswer {
 
 impl BootNumber {
     // The path of this boot number, below 2^24, and a generation from 0 to 3.
+    // Serves the map of boot blocks (request T-01), as `of_path` does; nothing but the examples uses either yet.
     pub fn path(self, generation: u8) -> PathAnswer
         ensures { λ r. ⌜ r ≡ pathOf (self .0) generation ⌝ }
     {
@@ -157,7 +158,7 @@ impl BootNumber {
         PathAnswer::Path(4 * self.0 + (generation as u32))
     }
 
-    // The boot number and the generation of a path below 2^26.
+    // The boot number and the generation of a path below 2^26. Serves the map of boot blocks (request T-01).
     pub fn of_path(path: u32) -> BootAnswer
         ensures { λ r. ⌜ r ≡ bootOf path ⌝ }
     {

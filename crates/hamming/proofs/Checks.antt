@@ -1,15 +1,14 @@
 -- Laws of the check bits: each is the parity of a masked number, and they are linear.
 -- Assumes nothing.
-use mathlib.Core.Path.{_≡_, _∙_, ap, ap₂, sym}
+use mathlib.Core.Path.{_≡_, _∙_, ap, sym}
 use mathlib.Core.Bool.{Bool, cond}
 use Prim.Native.Nat.{ℕ, _*_, _%_, _<_, _^_}
 use native.Mathlib.Nat.{mod-lt}
 use native.Mathlib.Omega.{arith}
 use lib.Bits.{bitAnd, bitXor, and-le-r}
 use lib.Count.{ones}
-use lib.Dec.{eqb}
 use lib.ListN.{getD}
-use Rattle.bits.specs.Bits.{_⊕_, bit, number, parityOf}
+use Rattle.bits.specs.Bits.{bit, number, parityOf}
 use Rattle.bits.proofs.Bit.{digit, number-lt, number-xor, number-ext}
 use Rattle.bits.proofs.Parity.{parity-masked, parity-number, parity-xor}
 use Rattle.hamming.specs.Word.{houseNumbers, checkBit, checkBits}

@@ -3,8 +3,7 @@
 -- Assumes nothing.
 use mathlib.Core.Path.{_≡_, refl, _∙_, ap, ap₂, subst, sym}
 use mathlib.Core.Bool.{Bool, true, false, not, cond, _&&_, _||_}
-use Prim.Native.Nat.{ℕ, _+_, _*_, _/_, _%_, _<_, _^_}
-use native.Mathlib.Nat.{mod-eq-of-lt}
+use Prim.Native.Nat.{ℕ, _/_, _%_, _<_, _^_}
 use native.Mathlib.Omega.{arith}
 use borrow.Author.Tests.{ne-eqb}
 use lib.Bits.{bitXor, xor-comm, xor-mod, xor-self, xor-shr, xor-zero-l, xor-zero-r}
@@ -14,10 +13,9 @@ use Rattle.bits.specs.Bits.{bit, number, parityOf}
 use Rattle.bits.proofs.Bit.{number-lt, xor-assoc, xor-swap, xor-twice}
 use Rattle.bits.proofs.Computed.{all, below, left, right, true-of}
 use Rattle.hamming.specs.declared.Decoded.{Decoded}
-use Rattle.hamming.specs.declared.Repair.{Repair}
 use Rattle.hamming.specs.declared.Repair.the-variants.{Clean, CheckBit, DataBit}
 use Rattle.hamming.specs.Word.{powerOfTwo, notPowers, houseNumbers, checkBit, checkBits, encoded, named, placeIn, dataBitOf, decodedBy, decoded, isRepair}
-use Rattle.hamming.specs.Claims.{Used, flipped, Protects}
+use Rattle.hamming.specs.Claims.{Used, Protects}
 use Rattle.hamming.proofs.Checks.{check-xor}
 
 -- ---- a word as written, with the bits of e flipped

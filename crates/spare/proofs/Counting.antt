@@ -1,7 +1,7 @@
 -- The counts of repairs are small: at most 3 in a spare, 1 in a half.
 -- Assumes nothing.
 use mathlib.Core.Bool.{Bool, true, false, cond}
-use Prim.Native.Nat.{ℕ, _≤_}
+use Prim.Native.Nat.{_≤_}
 use native.Mathlib.Omega.{arith}
 use Rattle.ecc.specs.Verdicts.{repairs}
 use Rattle.ecc.specs.declared.Verdict.{Verdict}

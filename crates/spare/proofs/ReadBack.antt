@@ -1,25 +1,30 @@
 -- Demand 2 for pages: each half tells what the half-page code claims of it, and a flipped data bit is put right by one flip more.
 -- Assumes nothing.
-use mathlib.Core.Bool.{true}
+use mathlib.Core.Bool.{true, cond, false≢true}
 use mathlib.Core.List.{List}
 use mathlib.Core.Path.{_≡_, refl, _∙_, ap}
-use Prim.Native.Nat.{ℕ, _+_, _≤_}
+use Prim.Native.Nat.{ℕ, _+_, _≤_, _^_}
 use native.Mathlib.Omega.{arith}
-use borrow.Author.Tests.{lt-ltb}
+use borrow.Author.Tests.{eq-eqb, le-leb, lt-ltb}
 use lib.ListN.{length}
 use Rattle.bits.proofs.Bytes.{flip-twice}
 use Rattle.chip.specs.declared.Half.{Half}
 use Rattle.chip.specs.declared.Half.the-variants.{First, Second}
 use Rattle.chip.specs.declared.Refusal.the-variants.{Unrepairable}
-use Rattle.ecc.specs.Claims.{Protects}
-use Rattle.ecc.specs.Flips.{Place, dataAt, codeAt, Real, named}
+use Rattle.ecc.specs.declared.Verdict.the-variants.{Clean}
+use Rattle.ecc.specs.Claims.{Protects, told}
+use Rattle.ecc.specs.Flips.{Place, dataAt, codeAt, Real, named, written as kept}
 use Rattle.ecc.specs.Verdicts.{halfStart, mended, repairs}
 use Rattle.ecc.proofs.Protection.{protects}
-use Rattle.spare.specs.declared.PageAnswer.the-variants.{Read, Refused}
-use Rattle.spare.specs.Claims.{Page, Writable, written, flipped, Reading, fieldsOf, fieldsWith, ReadsBack}
-use Rattle.spare.specs.Pages.{isRepairable, byVerdicts, pageRepairs}
-use Rattle.spare.specs.Writing.{firstHalf, secondHalf}
-use Rattle.spare.proofs.TwoHalves.{flipIn, start, page-written, page-once, page-twice, page-length, page-read}
+use Rattle.spare.specs.declared.PageAnswer.{PageAnswer}
+use Rattle.spare.specs.declared.PageAnswer.the-variants.{Refused}
+use Rattle.spare.specs.declared.SpareAnswer.the-variants.{Read as SpareRead}
+use Rattle.spare.specs.declared.WriteAnswer.the-variants.{Written}
+use Rattle.spare.specs.Claims.{Page, Writable, written, flipped, Flips, none, one, two, RealFlips, withFlips, flipVerdict, flipRepairs, fieldsOf, unlessTwo, flipAnswer, flipData, Reading, ReadsBack}
+use Rattle.spare.specs.Pages.{isRepairable, byVerdicts, dataBy}
+use Rattle.spare.specs.Reading.{spareAnswer}
+use Rattle.spare.specs.Writing.{firstHalf, secondHalf, isWritable, spareOf, writeAnswer, spareAfter}
+use Rattle.spare.proofs.TwoHalves.{keptWith, flipsIn, start, page-written, page-second, page-both, page-length, page-spare, page-read}
 
 -- ---- the verdict that names a place
 named-repairable : (q : Place) → isRepairable (named q) ≡ true
@@ -39,56 +44,86 @@ named-mends : (h : Half) (q : Place) (p : Page) → Real q → length (p .bytes)
 named-mends h (dataAt a b) p r l = rw (lt-ltb b 8 (r .1)) (flip-twice (p .bytes) (halfStart h + a) b (omega (arith, start-le h)))
 named-mends h (codeAt j) p r l = refl
 
+-- ---- the verdict of up to two flips
+-- what the half-page code claims of a half
+flips-told : (half : List ℕ) → Protects half → (f : Flips) → RealFlips f → told (keptWith f (kept half)) ≡ flipVerdict f
+flips-told half p none s = p .clean
+flips-told half p (one q) s = p .one q s
+flips-told half p (two q r) s = p .two q r (s .0) (s .1) (s .2)
+
+flips-repairs : (f : Flips) → repairs (flipVerdict f) ≡ flipRepairs f
+flips-repairs none = refl
+flips-repairs (one q) = named-repairs q
+flips-repairs (two q r) = refl
+
+-- two are refused, fewer are put right
+flips-answer : (h : Half) (f : Flips) (a : PageAnswer) → cond (isRepairable (flipVerdict f)) a (Refused (Unrepairable h)) ≡ unlessTwo h f a
+flips-answer h none a = refl
+flips-answer h (one q) a = rw (named-repairable q)
+flips-answer h (two q r) a = refl
+
+flips-leave : (h : Half) (f : Flips) (a : PageAnswer) (asWritten lent : List ℕ)
+    → (isRepairable (flipVerdict f) ≡ true → dataBy a lent ≡ flipData a asWritten lent)
+    → dataBy (unlessTwo h f a) lent ≡ flipData (unlessTwo h f a) asWritten lent
+flips-leave h none a asWritten lent k = k refl
+flips-leave h (one q) a asWritten lent k = k (named-repairable q)
+flips-leave h (two q r) a asWritten lent k = refl
+
+flips-mend : (h : Half) (f : Flips) (p : Page) → RealFlips f → length (p .bytes) ≡ 512 → isRepairable (flipVerdict f) ≡ true
+    → mended h (flipVerdict f) (withFlips h f p .bytes) ≡ p .bytes
+flips-mend h none p s l e = refl
+flips-mend h (one q) p s l e = named-mends h q p s l
+flips-mend h (two q r) p s l e = absurd (false≢true e)
+
 -- ---- the claim
 module _ {bytes : List ℕ} {tag path count : ℕ} (w : Writable bytes tag path count) where
-  -- the page as written
-  abbrev p : Page
-  p = written bytes tag path count
+  accepted : (lent : List ℕ) → length lent ≡ 16
+      → (writeAnswer bytes tag path count lent ≡ Written) × (spareAfter bytes tag path count lent ≡ spareOf bytes tag path count)
+  unfolding writeAnswer spareAfter isWritable
+  accepted lent l =
+      let whole = eq-eqb (length bytes) 512 (w .whole) in
+      let room = eq-eqb (length lent) 16 l in
+      let short = lt-ltb path (2 ^ 26) (w .short) in
+      let few = le-leb count 262142 (w .few) in
+      (rw (whole, room, w .known, short, few) refl, rw (whole, room, w .known, short, few) refl)
 
-  first : Protects (firstHalf bytes)
-  first = protects (firstHalf bytes) (start w .firstWhole)
+  alone : spareAnswer (spareOf bytes tag path count) ≡ SpareRead (fieldsOf tag path count Clean Clean .spare)
+  alone = rw (ap (λ (p : Page). p .spare) (page-written w)) (page-spare w (start w))
 
-  second : Protects (secondHalf bytes)
-  second = protects (secondHalf bytes) (start w .secondWhole)
+  -- the page with f and g flipped in its halves
+  abbrev withBoth : Flips → Flips → Page
+  withBoth f g = withFlips First f (withFlips Second g (written bytes tag path count))
 
-  one : (h : Half) (q : Place) → Real q → Reading (flipped h q p) (Read (fieldsWith h tag path count (named q))) bytes
+  answers : (f g : Flips) → byVerdicts (fieldsOf tag path count Clean Clean .spare) (flipVerdict f) (flipVerdict g) ≡ flipAnswer tag path count f g
   unfolding byVerdicts
-  one First q s =
-      page-read w (flipIn First q (start w)) (page-once w First q s) (first .one q s) (second .clean) (rw (named-repairable q))
-      (named-mends First q p s (w .whole))
-  one Second q s =
-      page-read w (flipIn Second q (start w)) (page-once w Second q s) (first .clean) (second .one q s) (rw (named-repairable q))
-      (named-mends Second q p s (w .whole))
+  answers f g = rw (flips-answer Second g) (flips-answer First f _)
 
-  counted : (h : Half) (q : Place) → pageRepairs (fieldsWith h tag path count (named q)) ≡ 1
-  counted First q = rw (named-repairs q)
-  counted Second q = rw (named-repairs q)
+  leaves : (f g : Flips) → RealFlips f → RealFlips g
+      → dataBy (flipAnswer tag path count f g) (withBoth f g .bytes) ≡ flipData (flipAnswer tag path count f g) bytes (withBoth f g .bytes)
+  leaves f g s t =
+      flips-leave First f _ bytes (withBoth f g .bytes)
+      (λ e. flips-leave Second g _ bytes (withBoth f g .bytes)
+      (λ d. ap (mended Second (flipVerdict g)) (flips-mend First f second s whole e) ∙ flips-mend Second g (written bytes tag path count) t (w .whole) d))
+    where
+      second : Page
+      second = withFlips Second g (written bytes tag path count)
 
-  each : (q r : Place) → Real q → Real r → Reading (flipped First q (flipped Second r p)) (Read (fieldsOf tag path count (named q) (named r))) bytes
-  unfolding byVerdicts
-  each q r s t =
-      let l : length (flipped Second r p .bytes) ≡ 512 = rw (page-once w Second r t) (page-length w (flipIn Second r (start w))) in
-      page-read w (flipIn First q (flipIn Second r (start w))) (page-twice w First Second q r s t) (first .one q s) (second .one r t)
-      (rw (named-repairable q, named-repairable r))
-      (ap (mended Second (named r)) (named-mends First q (flipped Second r p) s l) ∙ named-mends Second r p t (w .whole))
+      whole : length (second .bytes) ≡ 512
+      whole = rw (page-second w g t) (page-length w (flipsIn Second g (start w)))
 
-  two : (h : Half) (q r : Place) → Real q → Real r → (q ≡ r → ⊥)
-      → Reading (flipped h q (flipped h r p)) (Refused (Unrepairable h)) (flipped h q (flipped h r p) .bytes)
-  unfolding byVerdicts
-  two First q r s t ne =
-      page-read w (flipIn First q (flipIn First r (start w))) (page-twice w First First q r s t) (first .two q r s t ne) (second .clean) refl refl
-  two Second q r s t ne =
-      page-read w (flipIn Second q (flipIn Second r (start w))) (page-twice w Second Second q r s t) (first .clean) (second .two q r s t ne) refl refl
+  reads : (f g : Flips) → RealFlips f → RealFlips g
+      → Reading (withBoth f g) (flipAnswer tag path count f g) (flipData (flipAnswer tag path count f g) bytes (withBoth f g .bytes))
+  reads f g s t =
+      page-read w (flipsIn First f (flipsIn Second g (start w))) (page-both w f g s t)
+      (flips-told (firstHalf bytes) (protects (firstHalf bytes) (start w .firstWhole)) f s)
+      (flips-told (secondHalf bytes) (protects (secondHalf bytes) (start w .secondWhole)) g t)
+      (answers f g) (leaves f g s t)
 
 pub reads-back : (bytes : List ℕ) (tag path count : ℕ) → Writable bytes tag path count → ReadsBack bytes tag path count
-unfolding byVerdicts
 reads-back bytes tag path count w =
     record {
-      same = page-read w (start w) (page-written w) (first w .clean) (second w .clean) refl refl;
-      none = refl;
-      one = one w;
-      counted = counted w;
-      each = each w;
-      both = λ q r. rw (named-repairs q, named-repairs r);
-      two = two w;
+      accepted = accepted w;
+      alone = alone w;
+      reads = reads w;
+      counted = λ f g. omega (arith, flips-repairs f, flips-repairs g);
     }

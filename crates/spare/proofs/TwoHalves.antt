@@ -30,7 +30,7 @@ use Rattle.hamming.proofs.Protection.{protects}
 use Rattle.spare.specs.declared.PageAnswer.{PageAnswer}
 use Rattle.spare.specs.declared.SpareAnswer.the-variants.{Read}
 use Rattle.spare.specs.declared.SpareFields.{SpareFields}
-use Rattle.spare.specs.Claims.{Page, Writable, written, flipped, Reading, fieldsOf}
+use Rattle.spare.specs.Claims.{Page, Writable, written, flipped, Flips, none, one, two, RealFlips, withFlips, Reading, fieldsOf}
 use Rattle.spare.specs.Pages.{codePlace, byVerdicts, pageAnswer, dataBy, dataAfter}
 use Rattle.spare.specs.Reading.{magicOf, countOf, byWords, spareAnswer}
 use Rattle.spare.specs.Status.{statusOf}
@@ -44,16 +44,37 @@ pub record Halves : Type 0 where
   pub firstWhole : length (first .half) ≡ 256
   pub secondWhole : length (second .half) ≡ 256
 
-pub half-whole : (q : Place) (k : Kept) → length (k .half) ≡ 256 → length (flip q k .half) ≡ 256
-half-whole (dataAt a b) k l = length-set (k .half) a (bitXor (getD (k .half) a 0) (2 ^ b)) ∙ l
-half-whole (codeAt j) k l = l
+-- a half kept with its code, with up to two bits flipped
+abbrev pub keptWith : Flips → Kept → Kept
+keptWith none k = k
+keptWith (one q) k = flip q k
+keptWith (two q r) k = flip q (flip r k)
 
--- with the bit at a place of half h flipped
-abbrev pub flipIn : Half → Place → Halves → Halves
-flipIn First q ks =
-    record { first = flip q (ks .first); second = ks .second; firstWhole = half-whole q (ks .first) (ks .firstWhole); secondWhole = ks .secondWhole }
-flipIn Second q ks =
-    record { first = ks .first; second = flip q (ks .second); firstWhole = ks .firstWhole; secondWhole = half-whole q (ks .second) (ks .secondWhole) }
+flip-whole : (q : Place) (k : Kept) → length (k .half) ≡ 256 → length (flip q k .half) ≡ 256
+flip-whole (dataAt a b) k l = length-set (k .half) a (bitXor (getD (k .half) a 0) (2 ^ b)) ∙ l
+flip-whole (codeAt j) k l = l
+
+pub half-whole : (f : Flips) (k : Kept) → length (k .half) ≡ 256 → length (keptWith f k .half) ≡ 256
+half-whole none k l = l
+half-whole (one q) k l = flip-whole q k l
+half-whole (two q r) k l = flip-whole q (flip r k) (flip-whole r k l)
+
+-- with these bits of half h flipped
+abbrev pub flipsIn : Half → Flips → Halves → Halves
+flipsIn First f ks =
+    record {
+      first = keptWith f (ks .first);
+      second = ks .second;
+      firstWhole = half-whole f (ks .first) (ks .firstWhole);
+      secondWhole = ks .secondWhole;
+    }
+flipsIn Second f ks =
+    record {
+      first = ks .first;
+      second = keptWith f (ks .second);
+      firstWhole = ks .firstWhole;
+      secondWhole = half-whole f (ks .second) (ks .secondWhole);
+    }
 
 -- a protected word as it stands in a spare
 word-read : (n : ℕ) → n < 2 ^ 26
@@ -95,7 +116,7 @@ module _ {bytes : List ℕ} {tag path count : ℕ} (w : Writable bytes tag path 
   -- ---- a flip of a page
   -- of a code bit: one of three stored bytes holds it
   page-code : (h : Half) (j : ℕ) (ks : Halves) (t u : Bool) → ltb j 8 ≡ t → ltb j 16 ≡ u
-      → flipped h (codeAt j) (page ks) ≡ page (flipIn h (codeAt j) ks)
+      → flipped h (codeAt j) (page ks) ≡ page (flipsIn h (one (codeAt j)) ks)
   unfolding page spareOf flipCode
   page-code First j ks true u e f = rw e
   page-code First j ks false true e f = rw (e, f)
@@ -104,24 +125,33 @@ module _ {bytes : List ℕ} {tag path count : ℕ} (w : Writable bytes tag path 
   page-code Second j ks false true e f = rw (e, f)
   page-code Second j ks false false e f = rw (e, f)
 
-  page-flip : (h : Half) (q : Place) (ks : Halves) → Real q → flipped h q (page ks) ≡ page (flipIn h q ks)
+  page-flip : (h : Half) (q : Place) (ks : Halves) → Real q → flipped h q (page ks) ≡ page (flipsIn h (one q) ks)
   unfolding page
   page-flip First (dataAt a b) ks r = rw (zero-add a, flip-left (ks .first .half) (ks .second .half) a b (omega arith))
   page-flip Second (dataAt a b) ks r = rw (← (ks .firstWhole), flip-right (ks .first .half) (ks .second .half) a b)
   page-flip h (codeAt j) ks r = page-code h j ks (ltb j 8) (ltb j 16) refl refl
 
-  pub page-once : (h : Half) (q : Place) → Real q → flipped h q (written bytes tag path count) ≡ page (flipIn h q start)
-  page-once h q s = rw page-written (page-flip h q start s)
+  page-flips : (h : Half) (f : Flips) (ks : Halves) → RealFlips f → withFlips h f (page ks) ≡ page (flipsIn h f ks)
+  unfolding page
+  page-flips First none ks s = refl
+  page-flips Second none ks s = refl
+  page-flips h (one q) ks s = page-flip h q ks s
+  page-flips First (two q r) ks s = rw (page-flip First r ks (s .1)) (page-flip First q (flipsIn First (one r) ks) (s .0))
+  page-flips Second (two q r) ks s = rw (page-flip Second r ks (s .1)) (page-flip Second q (flipsIn Second (one r) ks) (s .0))
 
-  pub page-twice : (g h : Half) (q r : Place) → Real q → Real r
-      → flipped g q (flipped h r (written bytes tag path count)) ≡ page (flipIn g q (flipIn h r start))
-  page-twice g h q r s t = rw (page-once h r t) (page-flip g q (flipIn h r start) s)
+  -- of the page as written
+  pub page-second : (g : Flips) → RealFlips g → withFlips Second g (written bytes tag path count) ≡ page (flipsIn Second g start)
+  page-second g t = rw page-written (page-flips Second g start t)
+
+  pub page-both : (f g : Flips) → RealFlips f → RealFlips g
+      → withFlips First f (withFlips Second g (written bytes tag path count)) ≡ page (flipsIn First f (flipsIn Second g start))
+  page-both f g s t = rw (page-second g t) (page-flips First f (flipsIn Second g start) s)
 
   -- ---- the reading of a page
   abbrev fields : SpareFields
   fields = fieldsOf tag path count Clean Clean .spare
 
-  page-spare : (ks : Halves) → spareAnswer (page ks .spare) ≡ Read fields
+  pub page-spare : (ks : Halves) → spareAnswer (page ks .spare) ≡ Read fields
   unfolding page spareOf spareAnswer statusOf ones onesIn byWords
   page-spare ks =
       let magic : magicOf (magicAndCount count) ≡ 0x56 = omega arith in

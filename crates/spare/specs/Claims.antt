@@ -1,5 +1,5 @@
--- Demand 2 for pages: what is written reads back as the same fields; in a page otherwise as written, one flipped bit in a half, among its
--- 256 bytes or their 22 code bits, still gives the data as written, and two are refused.
+-- Demand 2 for pages: what may be written is written, and reads back as the same fields; in a page otherwise as written, one flipped bit
+-- in a half, among its 256 bytes or their 22 code bits, still gives the data as written, and two are refused, whatever the other half has.
 use mathlib.Core.Bool.{false, true, cond}
 use mathlib.Core.List.{List}
 use mathlib.Core.Path.{_≡_}
@@ -13,13 +13,16 @@ use Rattle.chip.specs.declared.Refusal.the-variants.{Unrepairable}
 use Rattle.ecc.specs.Flips.{Place, dataAt, codeAt, Real, named}
 use Rattle.ecc.specs.Verdicts.{halfStart}
 use Rattle.ecc.specs.declared.Verdict.{Verdict}
-use Rattle.ecc.specs.declared.Verdict.the-variants.{Clean}
+use Rattle.ecc.specs.declared.Verdict.the-variants.{Clean, NotRepairable}
 use Rattle.spare.specs.declared.PageAnswer.{PageAnswer}
 use Rattle.spare.specs.declared.PageAnswer.the-variants.{Read, Refused}
 use Rattle.spare.specs.declared.PageFields.{PageFields}
+use Rattle.spare.specs.declared.SpareAnswer.the-variants.{Read as SpareRead}
+use Rattle.spare.specs.declared.WriteAnswer.the-variants.{Written}
 use Rattle.spare.specs.Pages.{codePlace, pageAnswer, dataAfter, pageRepairs}
+use Rattle.spare.specs.Reading.{spareAnswer}
 use Rattle.spare.specs.Tags.{tags, isIn}
-use Rattle.spare.specs.Writing.{spareOf}
+use Rattle.spare.specs.Writing.{spareOf, writeAnswer, spareAfter}
 
 -- 512 data bytes and 16 spare bytes
 pub record Page : Type 0 where
@@ -49,10 +52,35 @@ abbrev pub flipped : Half → Place → Page → Page
 flipped h (dataAt a b) p = record { bytes = flipAt (p .bytes) (halfStart h + a) b; spare = p .spare }
 flipped h (codeAt j) p = record { bytes = p .bytes; spare = flipAt (p .spare) (codePlace h + codeByte j) (codeBitIn j) }
 
--- what reading a page answers, and the data after it
-pub record Reading (p : Page) (answer : PageAnswer) (after : List ℕ) : Type 0 where
-  pub answered : pageAnswer (p .bytes) (p .spare) ≡ answer
-  pub left : dataAfter (p .bytes) (p .spare) ≡ after
+-- up to two flipped bits of a half
+pub data Flips : Type 0 where
+  none : Flips
+  one : Place → Flips
+  two : Place → Place → Flips
+
+-- at places that exist; of two, different ones
+abbrev pub RealFlips : Flips → Type 0
+RealFlips none = Unit {0}
+RealFlips (one q) = Real q
+RealFlips (two q r) = Real q × Real r × (q ≡ r → ⊥)
+
+-- a page with these bits of half h flipped
+abbrev pub withFlips : Half → Flips → Page → Page
+withFlips h none p = p
+withFlips h (one q) p = flipped h q p
+withFlips h (two q r) p = flipped h q (flipped h r p)
+
+-- what the half then tells
+abbrev pub flipVerdict : Flips → Verdict
+flipVerdict none = Clean
+flipVerdict (one q) = named q
+flipVerdict (two q r) = NotRepairable
+
+-- and how many repairs it counts
+abbrev pub flipRepairs : Flips → ℕ
+flipRepairs none = 0
+flipRepairs (one q) = 1
+flipRepairs (two q r) = 0
 
 -- the fields of a page as written, with what was put right in its halves
 abbrev pub fieldsOf : ℕ → ℕ → ℕ → Verdict → Verdict → PageFields
@@ -63,22 +91,35 @@ fieldsOf tag path count first second =
       second = second;
     }
 
--- with a verdict in half h alone
-abbrev pub fieldsWith : Half → ℕ → ℕ → ℕ → Verdict → PageFields
-fieldsWith First tag path count v = fieldsOf tag path count v Clean
-fieldsWith Second tag path count v = fieldsOf tag path count Clean v
+-- refusal 6 where half h has two flipped bits, else the answer a
+abbrev pub unlessTwo : Half → Flips → PageAnswer → PageAnswer
+unlessTwo h none a = a
+unlessTwo h (one q) a = a
+unlessTwo h (two q r) a = Refused (Unrepairable h)
+
+-- the answer, with f flipped in the first half and g in the second: the first half is named if both have two; else the fields as written
+abbrev pub flipAnswer : ℕ → ℕ → ℕ → Flips → Flips → PageAnswer
+flipAnswer tag path count f g = unlessTwo First f (unlessTwo Second g (Read (fieldsOf tag path count (flipVerdict f) (flipVerdict g))))
+
+-- the data after it: as written where the page was read, as lent where it was refused
+abbrev pub flipData : PageAnswer → List ℕ → List ℕ → List ℕ
+flipData (Read f) asWritten lent = asWritten
+flipData (Refused r) asWritten lent = lent
+
+-- what reading a page answers, and the data after it
+pub record Reading (p : Page) (answer : PageAnswer) (after : List ℕ) : Type 0 where
+  pub answered : pageAnswer (p .bytes) (p .spare) ≡ answer
+  pub left : dataAfter (p .bytes) (p .spare) ≡ after
 
 pub record ReadsBack (bytes : List ℕ) (tag path count : ℕ) : Type 0 where
-  -- as written: the same fields, status FF, no repairs, data unchanged
-  pub same : Reading (written bytes tag path count) (Read (fieldsOf tag path count Clean Clean)) bytes
-  pub none : pageRepairs (fieldsOf tag path count Clean Clean) ≡ 0
-  -- one flipped bit in a half: the data as written, and its repair counted
-  pub one : (h : Half) (q : Place) → Real q → Reading (flipped h q (written bytes tag path count)) (Read (fieldsWith h tag path count (named q))) bytes
-  pub counted : (h : Half) (q : Place) → pageRepairs (fieldsWith h tag path count (named q)) ≡ 1
-  -- one in each half: both repaired
-  pub each : (q r : Place) → Real q → Real r
-      → Reading (flipped First q (flipped Second r (written bytes tag path count))) (Read (fieldsOf tag path count (named q) (named r))) bytes
-  pub both : (q r : Place) → pageRepairs (fieldsOf tag path count (named q) (named r)) ≡ 2
-  -- two in one half: refusal 6 naming it, nothing changed
-  pub two : (h : Half) (q r : Place) → Real q → Real r → (q ≡ r → ⊥)
-      → Reading (flipped h q (flipped h r (written bytes tag path count))) (Refused (Unrepairable h)) (flipped h q (flipped h r (written bytes tag path count)) .bytes)
+  -- it is written: the answer, and the lent bytes after it
+  pub accepted : (lent : List ℕ) → length lent ≡ 16
+      → (writeAnswer bytes tag path count lent ≡ Written) × (spareAfter bytes tag path count lent ≡ written bytes tag path count .spare)
+  -- the spare alone: the same fields, status FF, no repairs
+  pub alone : spareAnswer (written bytes tag path count .spare) ≡ SpareRead (fieldsOf tag path count Clean Clean .spare)
+  -- the page with none, one or two flipped bits in each half
+  pub reads : (f g : Flips) → RealFlips f → RealFlips g
+      → let p : Page = withFlips First f (withFlips Second g (written bytes tag path count)) in
+      Reading p (flipAnswer tag path count f g) (flipData (flipAnswer tag path count f g) bytes (p .bytes))
+  -- how many were repaired: the halves with one flipped bit
+  pub counted : (f g : Flips) → pageRepairs (fieldsOf tag path count (flipVerdict f) (flipVerdict g)) ≡ flipRepairs f + flipRepairs g

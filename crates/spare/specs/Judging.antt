@@ -1,5 +1,4 @@
 -- What is judged of a page before anything is changed: the answer, and what will be put right in each half.
-use Rattle.ecc.specs.declared.Verdict.{Verdict}
 use Rattle.ecc.specs.declared.Verdict.the-variants.{Clean}
 use Rattle.spare.specs.declared.Judged.{Judged}
 use Rattle.spare.specs.declared.PageAnswer.{PageAnswer}

@@ -1,5 +1,5 @@
 -- Document 01, "Small page: the sixteen spare bytes": what reading a spare gives.
-use mathlib.Core.Bool.{Bool, not, cond}
+use mathlib.Core.Bool.{not, cond}
 use mathlib.Core.List.{List}
 use Prim.Native.Nat.{ℕ, _+_, _/_, _%_, _^_}
 use lib.Dec.{eqb}
@@ -13,7 +13,6 @@ use Rattle.spare.specs.declared.NearestTag.the-variants.{Found, Missing}
 use Rattle.spare.specs.declared.SpareAnswer.{SpareAnswer}
 use Rattle.spare.specs.declared.SpareAnswer.the-variants.{Read, Refused}
 use Rattle.spare.specs.declared.Repaired.{Repaired}
-use Rattle.spare.specs.declared.SpareFields.{SpareFields}
 use Rattle.spare.specs.declared.Status.{Status}
 use Rattle.spare.specs.declared.Status.the-variants.{Good, Bad}
 use Rattle.spare.specs.Status.{statusOf}

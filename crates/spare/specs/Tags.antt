@@ -2,7 +2,7 @@
 use mathlib.Core.Bool.{Bool, true, false, cond, _&&_, _||_}
 use mathlib.Core.List.{List, [], _∷_}
 use mathlib.Core.Path.{_≡_}
-use Prim.Native.Nat.{ℕ, zero, suc, _+_}
+use Prim.Native.Nat.{ℕ, zero, suc, _+_, _<_, _≤_}
 use lib.Bits.{bitXor}
 use lib.Count.{ones}
 use lib.Dec.{eqb, leb}
@@ -54,3 +54,7 @@ pub record TagTable : Type 0 where
   pub refused : 193 + bytesFound 256 ≡ 256
   -- each tag is itself
   pub itself : (t : ℕ) → isIn tags t ≡ true → nearest tags t ≡ Found t
+  -- a byte at most one bit from a tag is that tag
+  pub near : (t b : ℕ) → b < 256 → isIn tags t ≡ true → distance t b ≤ 1 → nearest tags b ≡ Found t
+  -- and no other byte is
+  pub only : (t b : ℕ) → nearest tags b ≡ Found t → (isIn tags t ≡ true) × (distance t b ≤ 1)

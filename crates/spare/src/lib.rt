@@ -2,7 +2,6 @@
 ghost use mathlib.Core.Bool.{cond};
 ghost use mathlib.Core.Path.{_≡_};
 ghost use Prim.Native.Nat.{_+_, _≤_};
-ghost use lib.Dec.{eqb};
 ghost use lib.ListN.{length};
 ghost use Rattle.spare.specs.Pages.{isRepairable, byVerdicts, storedCode, bySpare, pageAnswer, dataAfter, pageRepairs};
 ghost use Rattle.spare.specs.Judging.{judgedBy};

@@ -1,6 +1,6 @@
 -- `decode` meets its contract: its tests are those of `decodedBy` on the number that `named` gives.
 -- Assumes nothing.
-use mathlib.Core.Path.{_≡_, _∙_, ap, sym}
+use mathlib.Core.Path.{_∙_, ap}
 use Prim.Native.Nat.{ℕ, _/_, _%_, _<_, _^_}
 use native.Mathlib.Nat.{mod-lt}
 use native.Mathlib.Omega.{arith}
@@ -8,7 +8,6 @@ use borrow.Author.Tests.{eq-eqb, ne-eqb}
 use lib.Bits.{bitXor, xor-lt}
 use Rattle.bits.proofs.Bit.{one-shifted}
 use Rattle.hamming.specs.Word.{named, decodedBy, decoded}
-use Rattle.hamming.specs.declared.Decoded.{Decoded}
 use Rattle.hamming.specs.declared.Repair.the-variants.{DataBit}
 use Rattle.hamming.proofs.Numbers.{above-two}
 use borrow.Author.Needs.{needs}

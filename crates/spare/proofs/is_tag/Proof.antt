@@ -2,7 +2,6 @@
 -- Assumes nothing.
 use mathlib.Core.Path.{_∙_, ap, sym}
 use native.Mathlib.Omega.{arith}
-use Rattle.spare.specs.Tags.{isIn, nearest, tags}
 use Rattle.spare.proofs.Tagging.{isItself, in-nearest, in-byte}
 use borrow.Author.Needs.{needs}
 use Rattle.spare.proofs.is_tag.Statement.{statement}

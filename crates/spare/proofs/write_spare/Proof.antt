@@ -1,6 +1,6 @@
 -- `write_spare` meets its contract: its tests are those of `writeAnswer`, and what may be written fits.
 -- Assumes nothing.
-use mathlib.Core.Path.{refl, sym, _∙_}
+use mathlib.Core.Path.{sym, _∙_}
 use native.Mathlib.Omega.{arith}
 use borrow.Author.Tests.{eq-eqb, ne-eqb}
 use Rattle.spare.specs.Writing.{writeAnswer, spareAfter}

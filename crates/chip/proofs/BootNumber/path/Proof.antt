@@ -1,5 +1,6 @@
 -- `BootNumber::path` meets its contract: its tests are those of `pathOf`.
 -- Assumes nothing.
+use native.Mathlib.Omega.{arith}
 use borrow.Author.Tests.{lt-ltb, le-ltb, le-leb, lt-leb}
 use Rattle.chip.specs.Boot.{pathOf}
 use borrow.Author.Needs.{needs}
@@ -12,7 +13,7 @@ returns c = simp (le-ltb _ _ (c .if1 .taken))
 
 returns-2 : tie.Need-returns-2
 unfolding pathOf
-returns-2 c = simp (lt-ltb _ _ (c .before .if1 .left), lt-leb _ _ (c .if2 .taken))
+returns-2 c = simp (lt-ltb _ _ (c .before .if1 .left), lt-leb (c .before .before .before .args .generation) 3 (omega arith))
 
 mul-t6 : tie.Need-mul-t6
 mul-t6 c = search needs
@@ -22,7 +23,7 @@ add-t8 c = search needs
 
 returns-3 : tie.Need-returns-3
 unfolding pathOf
-returns-3 c = simp (lt-ltb _ _ (c .before .before .if1 .left), le-leb _ _ (c .before .if2 .left))
+returns-3 c = simp (lt-ltb _ _ (c .before .before .if1 .left), le-leb (c .before .before .before .before .args .generation) 3 (omega arith))
 
 pub path-spec : {M : Type 1} → statement M
 path-spec = tie.close (tie.spec returns returns-2 mul-t6 add-t8 returns-3)
