@@ -14,12 +14,12 @@ use lib.Seq.{take-at, drop-append-add}
 use Rattle.chip.specs.Large.{pagesOf}
 use Rattle.chip.specs.declared.LargeChip.{LargeChip}
 use Rattle.bbt.specs.declared.Kind.the-variants.{Primary}
-use Rattle.bbt.specs.Histories.{Written, Done, Cut, OthersKept, Last, one-table, pending, closed, Closes, as-one, as-closed, was-complete, was-not, AfterStep, Snapshot, asked, step-done, step-cut, asPlanned, Hand, snapshot, answer, holding, empty, world, Event, update-planned, recovery-planned, cut-between}
+use Rattle.bbt.specs.Histories.{Written, Done, Cut, OthersKept, Last, one-table, pending, closed, Closes, as-one, as-closed, was-complete, was-not, AfterStep, Snapshot, asked, step-done, step-cut, asPlanned, Hand, snapshot, answer, holding, empty, World, world, Event, plan-refused, update-planned, recovery-planned, cut-between, no-step-left, no-plan}
 use Rattle.bbt.specs.Images.{Imaged, page-image, pageImage}
 use Rattle.bbt.specs.Pairs.{same}
 use Rattle.bbt.specs.Plans.{Step, erase, write, Call, for-update, Plan, stepsOf, plan, updated, for-recovery}
-use Rattle.bbt.specs.Possible.{Bytes, Left, as-it-was, left-blank, left-complete, left-unreadable, CutAllows, DoneAllows, IsLeft, AreLeft, CanHappen, NothingLeftOut}
-use Rattle.bbt.specs.PowerCuts.{ImageOf, Harmless}
+use Rattle.bbt.specs.Possible.{Bytes, Left, as-it-was, left-blank, left-complete, left-unreadable, CutAllows, DoneAllows, IsLeft, AreLeft, CanHappen, NoStep, NothingLeftOut}
+use Rattle.bbt.specs.PowerCuts.{ImageOf, Harmless, regionOf}
 use Rattle.bbt.specs.Regions.{Region, statusAt, bytesAt, Blank, Complete, Unreadable, Kept}
 use Rattle.bbt.proofs.LeftPages.{Judged, judge}
 use Rattle.bbt.proofs.Numbering.{started, tracked}
@@ -240,7 +240,7 @@ module _ {chip : LargeChip} where
       go (left-complete oob) ok h = inr (inl (h .0))
       go (left-unreadable l) ok h = inr (inr (h .0))
 
-  -- ---- plans, and cuts between steps
+  -- ---- plans
   can-plan : Judged chip → (r : Region chip) (h : Hand chip) (l : Last) (call : Call) (q : Plan) → answer call (snapshot r) ≡ plan q
       → (l′ : Last) × Event r l h (world r (holding call (snapshot r) 0 (stepsOf (pagesOf chip) q)) l′)
   can-plan ok r h l (for-update w) q e =
@@ -248,8 +248,21 @@ module _ {chip : LargeChip} where
       (asPlanned (s .2) (updated (s .2) w) q, update-planned w (s .0) (s .1) (s .2) q e (s .3))
   can-plan ok r h l for-recovery q e = let z = can-close r l in (z .0, recovery-planned q (z .0) e (z .1))
 
-  can-cut : (r : Region chip) (h : Hand chip) (l : Last) → (l′ : Last) × Event r l h (world r empty l′)
-  can-cut r h l = let z = can-close r l in (z .0, cut-between (z .0) (z .1))
+  -- ---- with no step left
+  with-no-step : (r : Region chip) (h : Hand chip) (l : Last) → NoStep h → Event r l h (world r h l)
+  with-no-step r empty l n = no-plan
+  with-no-step r (holding c a i []) l n = no-step-left
+  with-no-step r (holding c a i (e ∷ es)) l n = absurd n
+
+  with-no-page : (r : Region chip) (h : Hand chip) (l : Last) (w : World chip) → NoStep h → Event r l h w → regionOf w ≡ r
+  with-no-page r h l w n (plan-refused call x e) = refl
+  with-no-page r h l w n (update-planned wanted p m o q e s) = refl
+  with-no-page r h l w n (recovery-planned q l′ e cl) = refl
+  with-no-page r h l w n (step-done s l′ k d en) = absurd n
+  with-no-page r h l w n (step-cut s l′ k d cl) = absurd n
+  with-no-page r h l w n (cut-between l′ cl) = refl
+  with-no-page r h l w n no-step-left = refl
+  with-no-page r h l w n no-plan = refl
 
   can-happen : Judged chip → (r : Region chip) (l : Last) (c : Call) (a : Snapshot chip) (i : ℕ) (e : Step) (es : List Step) → Harmless r e
       → ImageOf e (asked c a i) → StepOfBytes e → CanHappen r l c a i e es
@@ -271,7 +284,10 @@ nothing-left-out n chip e = record {
       let p = demand3 n chip e .promise s h .next-step in
       can-happen ok r l c a i e′ es (p .0) (p .1 .by-image) (bytes-next ok e′ t);
   plans = can-plan ok;
-  cuts = can-cut;
+  refusals = λ r h l call x a. plan-refused call x a;
+  cuts = λ r h l l′ cl. cut-between l′ cl;
+  no-step = with-no-step;
+  no-page = with-no-page;
   closes = can-close;
   from-settled = λ r w q a. update-reads ok r w q (plan-asked ok r (for-update w) q a);
 }

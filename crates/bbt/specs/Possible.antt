@@ -1,18 +1,20 @@
 -- The histories of demand 3 leave nothing out: at every moment the next step can be done, and can be cut with every outcome that document 01
--- allows, with any bytes where it allows any; every plan that the library gives can be taken in hand; power can always be cut; the last update
--- can always be closed; and an accepted update was planned from a settled pair.
-use mathlib.Core.List.{List, _∷_}
+-- allows, with any bytes where it allows any; every plan that the library gives can be taken in hand, and a refused one changes nothing; power
+-- can always be cut; a step or cut with no step left changes no page; the last update can always be closed; and an accepted update was planned
+-- from a settled pair.
+use mathlib.Core.List.{List, [], _∷_}
 use mathlib.Core.Path.{_≡_}
 use Prim.Native.Nat.{ℕ, suc, _<_}
 use lib.ListN.{length, take, drop, getD}
 use Rattle.chip.specs.Large.{chipOf, pagesOf}
 use Rattle.chip.specs.declared.ChipAnswer.the-variants.{Chip}
 use Rattle.chip.specs.declared.LargeChip.{LargeChip}
+use Rattle.chip.specs.declared.Refusal.{Refusal}
 use Rattle.bbt.specs.Copies.{Table}
 use Rattle.bbt.specs.Histories.{Written, Last, Closes, Snapshot, Hand, snapshot, answer, asked, holding, empty, World, world, Event, History}
 use Rattle.bbt.specs.Images.{Imaged}
-use Rattle.bbt.specs.Plans.{Step, erase, write, Plan, stepsOf, plan, Call, for-update, reading, holds}
-use Rattle.bbt.specs.PowerCuts.{Start}
+use Rattle.bbt.specs.Plans.{Step, erase, write, Plan, stepsOf, refuse, plan, Call, for-update, reading, holds}
+use Rattle.bbt.specs.PowerCuts.{Start, regionOf}
 use Rattle.bbt.specs.Regions.{Region, view, bytesAt, Blank, Unreadable, Kept}
 
 -- any n bytes
@@ -63,13 +65,31 @@ module _ {chip : LargeChip} where
     pub cut : (left : ℕ → Left) → ((p : ℕ) → CutAllows e (left p))
         → (s : Region chip) × (l′ : Last) × AreLeft (asked c a i) left e r s × Event r l (holding c a i (e ∷ es)) (world s empty l′)
 
+  -- no step is left in hand, or there is no plan
+  abbrev pub NoStep : Hand chip → Type 0
+  NoStep empty = Unit {0}
+  NoStep (holding c a i []) = Unit {0}
+  NoStep (holding c a i (e ∷ es)) = ⊥
+
 pub record Possible (chip : LargeChip) : Type 0 where
+  -- the next step, done, and power cut in it
   pub steps : {w : World chip} {r : Region chip} {l : Last} {c : Call} {a : Snapshot chip} {i : ℕ} {e : Step} {es : List Step} → Start w
       → History w (world r (holding c a i (e ∷ es)) l) → CanHappen r l c a i e es
+  -- a plan replaces the one in hand
   pub plans : (r : Region chip) (h : Hand chip) (l : Last) (call : Call) (q : Plan) → answer call (snapshot r) ≡ plan q
       → (l′ : Last) × Event r l h (world r (holding call (snapshot r) 0 (stepsOf (pagesOf chip) q)) l′)
-  pub cuts : (r : Region chip) (h : Hand chip) (l : Last) → (l′ : Last) × Event r l h (world r empty l′)
+  -- a refusal changes nothing
+  pub refusals : (r : Region chip) (h : Hand chip) (l : Last) (call : Call) (x : Refusal) → answer call (snapshot r) ≡ refuse x
+      → Event r l h (world r h l)
+  -- a cut between steps, or with no step left, changes no page and ends the plan: the last update closes
+  pub cuts : (r : Region chip) (h : Hand chip) (l l′ : Last) → Closes r l l′ → Event r l h (world r empty l′)
+  -- a step with no step left changes nothing
+  pub no-step : (r : Region chip) (h : Hand chip) (l : Last) → NoStep h → Event r l h (world r h l)
+  -- whatever happens with no step left, changes no page
+  pub no-page : (r : Region chip) (h : Hand chip) (l : Last) (w : World chip) → NoStep h → Event r l h w → regionOf w ≡ r
+  -- the last update can be closed
   pub closes : (r : Region chip) (l : Last) → (l′ : Last) × Closes r l l′
+  -- an accepted update was planned from a settled pair
   pub from-settled : (r : Region chip) (wanted : List ℕ) (q : Plan) → answer (for-update wanted) (snapshot r) ≡ plan q
       → (p : ℕ) × (m : ℕ) × (o : Table) × (reading chip (view r) ≡ holds p m o)
 
