@@ -18,8 +18,9 @@ pub mod Numbering
 pub mod PowerCuts
 -- a plan carried out uncut
 pub mod CarriedOut
--- that nothing is left out of the histories, and two of them by number
+-- that nothing is left out of the histories, that every settled table is a start, and two histories by number
 pub mod AllBytes
 pub mod Putting
 pub mod Possible
+pub mod Starts
 pub mod Example

@@ -23,7 +23,7 @@ use Rattle.bbt.specs.PowerCuts.{ImageOf, Harmless, regionOf}
 use Rattle.bbt.specs.Regions.{Region, statusAt, bytesAt, Blank, Complete, Unreadable, Kept}
 use Rattle.bbt.proofs.LeftPages.{Judged, judge}
 use Rattle.bbt.proofs.Numbering.{started, tracked}
-use Rattle.bbt.proofs.Outcomes.{complete-kept, blank-kept}
+use Rattle.bbt.proofs.Outcomes.{kept-refl, kept-trans, complete-kept, blank-kept}
 use Rattle.bbt.proofs.Planning.{plan-asked, update-reads}
 use Rattle.bbt.proofs.PowerCuts.{demand3}
 use Rattle.bbt.proofs.Putting.{put-page}
@@ -99,12 +99,6 @@ cut-can x (write b p k t) (left-complete oob) pic sm h = (h, pageImage k t p, im
 cut-can x (write b p k t) (left-unreadable l) pic sm h = h
 
 module _ {chip : LargeChip} where
-  kept-refl : (r : Region chip) (b p : ℕ) → Kept r r b p
-  kept-refl r b p = record { same-status = refl; same-bytes = refl }
-
-  kept-trans : {r s u : Region chip} {b p : ℕ} → Kept r s b p → Kept s u b p → Kept r u b p
-  kept-trans x y = record { same-status = y .same-status ∙ x .same-status; same-bytes = y .same-bytes ∙ x .same-bytes }
-
   -- one page, all others kept
   record Given (x : Imaged) (f : Left) (r : Region chip) (b p : ℕ) : Type 0 where
     s : Region chip
