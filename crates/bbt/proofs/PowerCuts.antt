@@ -30,7 +30,7 @@ use Rattle.bbt.proofs.Forms.{Sole, Missing, Sound, twins, ahead, one-le
 use Rattle.bbt.proofs.LeftPages.{Judged, judge, Twin, primary-kind, mirror-kind}
 use Rattle.bbt.proofs.Numbering.{InHand, HandOf, started, tracked, track-numbered}
 use Rattle.bbt.proofs.Outcomes.{complete-kept}
-use Rattle.bbt.proofs.Placing.{Did, did, Broke, broke, Placing, place-start, place-fill, Went, more, placed, Left, unchanged, lacks, whole, place-done, place-cut, place-frame, place-twin}
+use Rattle.bbt.proofs.Placing.{Did, did, Broke, broke, Placing, place-start, place-fill, Went, more, placed, Remains, unchanged, lacks, whole, place-done, place-cut, place-frame, place-twin}
 use Rattle.bbt.proofs.Planning.{News, Update, no-news, news, updates, next-differs, settled-reading, reading-settled, plan-first, plan-asked, Ready, nothing-to-do, one-to-place, both-to-place, plan-ready, Of, recovers, no-merge, sound-settled}
 use Rattle.bbt.proofs.Searches.{nowhere-find}
 
@@ -242,18 +242,18 @@ module _ {chip : LargeChip} (ok : Judged chip) where
       copying-done o x (copy-stays x sp) (place-done ok r s mirror-kind (x .full) (x .placing) sp d) en
 
   -- ---- a step, cut
-  left-sound : {r s : Region chip} {k j : Kind} {b g : ℕ} {c : Table} → Twin k j → Sound r c → Left r s k j b g c c → Sound s c
-  left-sound {r} {s} o a (unchanged f) = sound-same ok r s f a
-  left-sound o a (lacks l) = one-left o l
-  left-sound o a (whole x y h) = both-sound o x y
+  remains-sound : {r s : Region chip} {k j : Kind} {b g : ℕ} {c : Table} → Twin k j → Sound r c → Remains r s k j b g c c → Sound s c
+  remains-sound {r} {s} o a (unchanged f) = sound-same ok r s f a
+  remains-sound o a (lacks l) = one-left o l
+  remains-sound o a (whole x y h) = both-sound o x y
 
   -- the new primary was being written: the old table is held, or the page cut was the last and is complete
-  left-rest : {r s : Region chip} {p m : ℕ} {o n : Table} {l′ : Last} → News chip o n → p < chip .region → Sound r o → ¬ NewPrimary r p n
-      → Left r s Primary Mirror p m n o → Closes s (pending o n p) l′ → Rest s l′ o
-  left-rest {r} {s} {n = n} w hp a h (unchanged f) cl =
+  remains-rest : {r s : Region chip} {p m : ℕ} {o n : Table} {l′ : Last} → News chip o n → p < chip .region → Sound r o → ¬ NewPrimary r p n
+      → Remains r s Primary Mirror p m n o → Closes s (pending o n p) l′ → Rest s l′ o
+  remains-rest {r} {s} {n = n} w hp a h (unchanged f) cl =
       old-rest (sound-same ok r s f a) (λ z. h (whole-kept n (back f) hp (λ e. omega (arith, hp)) z)) cl
-  left-rest {p = p} {n = n} w hp a h (lacks l) cl = old-rest (one-left primary-kind l) (missing-not n p (w .full) hp (l .lacking)) cl
-  left-rest w hp a h (whole x y z) cl = new-rest (w .not-good-kept) (ahead y x (w .newer)) z cl
+  remains-rest {p = p} {n = n} w hp a h (lacks l) cl = old-rest (one-left primary-kind l) (missing-not n p (w .full) hp (l .lacking)) cl
+  remains-rest w hp a h (whole x y z) cl = new-rest (w .not-good-kept) (ahead y x (w .newer)) z cl
 
   cut-mode : {r : Region chip} (s : Region chip) {k : Call} {a : Snapshot chip} {i : ℕ} (e : Step) {es : List Step} {l l′ : Last} {f : Table}
       → Mode r (holding k a i (e ∷ es)) l f → OthersKept e r s → Broke e r s → Closes s l l′ → Rest s l′ f
@@ -262,12 +262,12 @@ module _ {chip : LargeChip} (ok : Judged chip) where
         c = f;
         is = close-current (x .now) cl;
         not-good-kept = kept-same chip f;
-        sound = left-sound (x .kinds) (x .sound) (place-cut ok r s (x .kinds) (x .full) (x .placing) sp d);
+        sound = remains-sound (x .kinds) (x .sound) (place-cut ok r s (x .kinds) (x .full) (x .placing) sp d);
       }
   cut-mode {r} s e (renewing x) sp d cl =
-      left-rest (x .new) (place-twin ok (x .placing) .1) (x .sound) (x .not-yet) (place-cut ok r s primary-kind (x .new .full) (x .placing) sp d) cl
+      remains-rest (x .new) (place-twin ok (x .placing) .1) (x .sound) (x .not-yet) (place-cut ok r s primary-kind (x .new .full) (x .placing) sp d) cl
   cut-mode {r} s e {f = f} (copying x) sp d cl =
-      new-rest (kept-same chip f) (left-sound mirror-kind (x .sound) (place-cut ok r s mirror-kind (x .full) (x .placing) sp d)) (copy-stays x sp) cl
+      new-rest (kept-same chip f) (remains-sound mirror-kind (x .sound) (place-cut ok r s mirror-kind (x .full) (x .placing) sp d)) (copy-stays x sp) cl
 
   -- ---- a plan, made
   planned-update : {r : Region chip} (v : List ℕ) (p m : ℕ) (o n : Table) (q : Plan) → Sole r Primary p o → Sole r Mirror m o → Update chip o n p m q

@@ -1,4 +1,4 @@
--- The update rule keeps every entry that is not 11, and every length; so does AND of lengths.
+-- The update rule keeps every entry that is not 11, and every length; AND keeps every length.
 -- Assumes nothing.
 use mathlib.Core.Bool.{Bool, true, false, cond}
 use mathlib.Core.List.{List}

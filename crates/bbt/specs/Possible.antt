@@ -22,14 +22,14 @@ pub record Bytes (n : ℕ) (l : List ℕ) : Type 0 where
   pub as-many : length l ≡ n
   pub below-256 : (i : ℕ) → getD l i 0 < 256
 
--- what becomes of a page: it is as it was, blank, complete with these bytes in OOB 0-13, or unreadable with these bytes
+-- what a page is left as: as it was, blank, complete with these bytes in OOB 0-13, or unreadable with these bytes
 pub data Left : Type 0 where
   as-it-was : Left
   left-blank : Left
   left-complete : List ℕ → Left
   left-unreadable : List ℕ → Left
 
--- what a cut in a step may make of a page
+-- what a cut in a step may leave a page as
 abbrev pub CutAllows : Step → Left → Type 0
 CutAllows (erase b) as-it-was = Unit {0}
 CutAllows (erase b) left-blank = Unit {0}
@@ -40,20 +40,20 @@ CutAllows (write b p k t) left-blank = Unit {0}
 CutAllows (write b p k t) (left-complete x) = Bytes 14 x
 CutAllows (write b p k t) (left-unreadable l) = Bytes 2112 l
 
--- what a step, done, makes of its pages
+-- what a step, done, leaves its pages as
 abbrev pub DoneAllows : Step → Left → Type 0
 DoneAllows (erase b) f = f ≡ left-blank
 DoneAllows (write b p k t) f = (x : List ℕ) × Bytes 14 x × (f ≡ left-complete x)
 
 module _ {chip : LargeChip} where
-  -- page p of block b met its left, from region r to region s
+  -- page p of block b is left so, from region r to region s; a page written is that of the image asked for
   abbrev pub IsLeft : Imaged → Left → Region chip → Region chip → ℕ → ℕ → Type 0
   IsLeft x as-it-was r s b p = Kept r s b p
   IsLeft x left-blank r s b p = Blank s b p
   IsLeft x (left-complete oob) r s b p = Written s b p x × (take 14 (drop 2048 (bytesAt s b p)) ≡ oob)
   IsLeft x (left-unreadable l) r s b p = Unreadable s b p × (bytesAt s b p ≡ l)
 
-  -- the pages of the step did
+  -- the pages of a step are
   abbrev pub AreLeft : Imaged → (ℕ → Left) → Step → Region chip → Region chip → Type 0
   AreLeft x left (erase b) r s = (p : ℕ) → p < pagesOf chip → IsLeft x (left p) r s b p
   AreLeft x left (write b p k t) r s = IsLeft x (left p) r s b p
