@@ -22,7 +22,7 @@ use Rattle.bbt.specs.declared.Kind.{Kind}
 use Rattle.bbt.specs.declared.Kind.the-variants.{Primary, Mirror}
 use Rattle.bbt.specs.Copies.{Table, good}
 use Rattle.bbt.specs.Histories.{OthersKept, Last, one-table, pending, closed, asPlanned, NewPrimary, Closes, as-one, as-closed, was-complete, was-not, AfterStep, Snapshot, snapshot, Hand, empty, holding, World, world, answer, asked, Event, plan-refused, update-planned, recovery-planned, step-done, step-cut, cut-between, no-step-left, no-plan, History, start, next}
-use Rattle.bbt.specs.Plans.{Step, Plan, stepsOf, copySteps, plan, updated, recovery, Call, for-update, for-recovery, planByRules}
+use Rattle.bbt.specs.Plans.{Step, Plan, double, stepsOf, copySteps, plan, updated, recovery, Call, for-update, for-recovery, planByRules}
 use Rattle.bbt.specs.PowerCuts.{NotGoodKept, Start, settled-at}
 use Rattle.bbt.specs.Regions.{Region, view}
 use Rattle.bbt.proofs.Forms.{Sole, Missing, Sound, twins, ahead, one-left, Frame, sole-clear, sole-in, sole-fit, sole-length, sole-apart, sound-same, whole-copy}
@@ -269,18 +269,25 @@ module _ {chip : LargeChip} (ok : Judged chip) where
       new-rest (kept-same chip f) (remains-sound mirror-kind (x .sound) (place-cut ok r s mirror-kind (x .full) (x .placing) sp d)) (copy-stays x sp) cl
 
   -- ---- a plan, made
+  -- an update erases the mirror's block after the primary's last page
+  primary-first : (p m : ℕ) (n : Table)
+      → stepsOf (pagesOf chip) (double p m n) ≡ copySteps (pagesOf chip) p Primary n (copySteps (pagesOf chip) m Mirror n [])
+  unfolding stepsOf
+  primary-first p m n = refl
+
   planned-update : {r : Region chip} (v : List ℕ) (p m : ℕ) (o n : Table) (q : Plan) → Sole r Primary p o → Sole r Mirror m o → Update chip o n p m q
       → Mode r (holding (for-update v) (snapshot r) 0 (stepsOf (pagesOf chip) q)) (asPlanned o n q) o
   unfolding asPlanned stepsOf copySteps
   planned-update v p m o n q x y (no-news e) = resting update-over the-one (twins x y)
-  planned-update v p m o n q x y (news w) =
-      renewing (record {
+  planned-update {r} v p m o n q x y (news w) =
+      subst (λ (es : List Step). Mode r (holding (for-update v) (snapshot r) 0 es) (pending o n p) o) (sym (primary-first p m n))
+      (renewing (record {
         m = m;
         placing = place-start refl y (sole-clear ok x) (sole-fit ok x) (sole-in ok x) (sole-apart ok mirror-kind x y);
         new = w;
         sound = twins x y;
         not-yet = old-not w x;
-      })
+      }))
 
   planned-recovery : {r : Region chip} {l : Last} {c : Table} (q : Plan) → Current l c → Sound r c → Ready r q → Of c q
       → Mode r (holding for-recovery (snapshot r) 0 (stepsOf (pagesOf chip) q)) l c
