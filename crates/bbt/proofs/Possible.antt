@@ -13,12 +13,13 @@ use lib.ListN.{length, take, drop, replicate, length-append, length-take, length
 use lib.Seq.{take-at, drop-append-add}
 use Rattle.chip.specs.Large.{pagesOf}
 use Rattle.chip.specs.declared.LargeChip.{LargeChip}
+use Rattle.chip.specs.declared.Refusal.{Refusal}
 use Rattle.bbt.specs.declared.Kind.the-variants.{Primary}
 use Rattle.bbt.specs.Histories.{Written, Done, Cut, OthersKept, Last, one-table, pending, closed, Closes, as-one, as-closed, was-complete, was-not, AfterStep, Snapshot, asked, step-done, step-cut, asPlanned, Hand, snapshot, answer, holding, empty, World, world, Event, plan-refused, update-planned, recovery-planned, cut-between, no-step-left, no-plan}
 use Rattle.bbt.specs.Images.{Imaged, page-image, pageImage}
 use Rattle.bbt.specs.Pairs.{same}
-use Rattle.bbt.specs.Plans.{Step, erase, write, Call, for-update, Plan, stepsOf, plan, updated, for-recovery}
-use Rattle.bbt.specs.Possible.{Bytes, Left, as-it-was, left-blank, left-complete, left-unreadable, CutAllows, DoneAllows, IsLeft, AreLeft, CanHappen, NoStep, NothingLeftOut}
+use Rattle.bbt.specs.Plans.{Step, erase, write, Call, for-update, Plan, stepsOf, refuse, plan, updated, for-recovery}
+use Rattle.bbt.specs.Possible.{Bytes, Left, as-it-was, left-blank, left-complete, left-unreadable, CutAllows, DoneAllows, IsLeft, AreLeft, CanHappen, planning, stepping, Can, NoStep, NothingLeftOut}
 use Rattle.bbt.specs.PowerCuts.{ImageOf, Harmless, regionOf}
 use Rattle.bbt.specs.Regions.{Region, statusAt, bytesAt, Blank, Complete, Unreadable, Kept}
 use Rattle.bbt.proofs.LeftPages.{Judged, judge}
@@ -27,7 +28,7 @@ use Rattle.bbt.proofs.Outcomes.{kept-refl, kept-trans, complete-kept, b
 use Rattle.bbt.proofs.Planning.{plan-asked, update-reads}
 use Rattle.bbt.proofs.PowerCuts.{demand3}
 use Rattle.bbt.proofs.Putting.{put-page}
-use Rattle.bbt.proofs.Searches.{below-suc, all-or-some, same-refl, same-eq}
+use Rattle.bbt.proofs.Searches.{no-confusion, below-suc, all-or-some, same-refl, same-eq}
 use Rattle.bbt.proofs.AllBytes.{bytes-append, bytes-replicate, bytes-take, bytes-drop, StepOfBytes, bytes-next, image-bytes}
 
 dec-list : (l m : List ℕ) → Dec (l ≡ m)
@@ -236,27 +237,56 @@ module _ {chip : LargeChip} where
 
   -- ---- plans
   can-plan : Judged chip → (r : Region chip) (h : Hand chip) (l : Last) (call : Call) (q : Plan) → answer call (snapshot r) ≡ plan q
-      → (l′ : Last) × Event r l h (world r (holding call (snapshot r) 0 (stepsOf (pagesOf chip) q)) l′)
+      → (l′ : Last) × Can r l h (planning call) (world r (holding call (snapshot r) 0 (stepsOf (pagesOf chip) q)) l′)
   can-plan ok r h l (for-update w) q e =
       let s = update-reads ok r w q (plan-asked ok r (for-update w) q e) in
-      (asPlanned (s .2) (updated (s .2) w) q, update-planned w (s .0) (s .1) (s .2) q e (s .3))
-  can-plan ok r h l for-recovery q e = let z = can-close r l in (z .0, recovery-planned q (z .0) e (z .1))
+      (asPlanned (s .2) (updated (s .2) w) q, (update-planned w (s .0) (s .1) (s .2) q e (s .3), refl))
+  can-plan ok r h l for-recovery q e = let z = can-close r l in (z .0, (recovery-planned q (z .0) e (z .1), refl))
+
+  -- ---- a refused plan
+  -- a plan that was asked for is the one in question, which is refused
+  not-planned : (r : Region chip) (c d : Call) (q : Plan) (x : Refusal) → answer d (snapshot r) ≡ refuse x → answer c (snapshot r) ≡ plan q → planning c ≡ planning d → ⊥
+  not-planned r c d q x a e k =
+      let i : c ≡ d = cc in
+      let z : refuse x ≡ plan q = sym a ∙ (ap (λ (call : Call). answer call (snapshot r)) (sym i) ∙ e) in
+      no-confusion (cc)
+
+  must-refuse : (r : Region chip) (h : Hand chip) (l : Last) (call : Call) (x : Refusal) (w : World chip) → answer call (snapshot r) ≡ refuse x
+      → Can r l h (planning call) w → w ≡ world r h l
+  must-refuse r h l call x w a (plan-refused c y e, k) = refl
+  must-refuse r h l call x w a (update-planned wanted p m o q e s, k) = absurd (not-planned r (for-update wanted) call q x a e k)
+  must-refuse r h l call x w a (recovery-planned q l′ e cl, k) = absurd (not-planned r for-recovery call q x a e k)
+  must-refuse r h l call x w a (step-done s l′ o d en, k) = absurd (no-confusion (cc))
+  must-refuse r h l call x w a (step-cut s l′ o d cl, k) = absurd (no-confusion (cc))
+  must-refuse r h l call x w a (cut-between l′ cl, k) = absurd (no-confusion (cc))
+  must-refuse r h l call x w a (no-step-left, k) = absurd (no-confusion (cc))
+  must-refuse r h l call x w a (no-plan, k) = absurd (no-confusion (cc))
 
   -- ---- with no step left
-  with-no-step : (r : Region chip) (h : Hand chip) (l : Last) → NoStep h → Event r l h (world r h l)
-  with-no-step r empty l n = no-plan
-  with-no-step r (holding c a i []) l n = no-step-left
-  with-no-step r (holding c a i (e ∷ es)) l n = absurd n
+  can-idle : (r : Region chip) (h : Hand chip) (l : Last) → NoStep h → Can r l h stepping (world r h l)
+  can-idle r empty l n = (no-plan, refl)
+  can-idle r (holding c a i []) l n = (no-step-left, refl)
+  can-idle r (holding c a i (e ∷ es)) l n = absurd n
 
-  with-no-page : (r : Region chip) (h : Hand chip) (l : Last) (w : World chip) → NoStep h → Event r l h w → regionOf w ≡ r
-  with-no-page r h l w n (plan-refused call x e) = refl
-  with-no-page r h l w n (update-planned wanted p m o q e s) = refl
-  with-no-page r h l w n (recovery-planned q l′ e cl) = refl
-  with-no-page r h l w n (step-done s l′ k d en) = absurd n
-  with-no-page r h l w n (step-cut s l′ k d cl) = absurd n
-  with-no-page r h l w n (cut-between l′ cl) = refl
-  with-no-page r h l w n no-step-left = refl
-  with-no-page r h l w n no-plan = refl
+  must-idle : (r : Region chip) (h : Hand chip) (l : Last) (w : World chip) → NoStep h → Can r l h stepping w → w ≡ world r h l
+  must-idle r h l w n (plan-refused call x e, k) = absurd (no-confusion (cc))
+  must-idle r h l w n (update-planned wanted p m o q e s, k) = absurd (no-confusion (cc))
+  must-idle r h l w n (recovery-planned q l′ e cl, k) = absurd (no-confusion (cc))
+  must-idle r h l w n (step-done s l′ o d en, k) = absurd n
+  must-idle r h l w n (step-cut s l′ o d cl, k) = absurd n
+  must-idle r h l w n (cut-between l′ cl, k) = absurd (no-confusion (cc))
+  must-idle r h l w n (no-step-left, k) = refl
+  must-idle r h l w n (no-plan, k) = refl
+
+  idle-page : (r : Region chip) (h : Hand chip) (l : Last) (w : World chip) → NoStep h → Event r l h w → regionOf w ≡ r
+  idle-page r h l w n (plan-refused call x e) = refl
+  idle-page r h l w n (update-planned wanted p m o q e s) = refl
+  idle-page r h l w n (recovery-planned q l′ e cl) = refl
+  idle-page r h l w n (step-done s l′ k d en) = absurd n
+  idle-page r h l w n (step-cut s l′ k d cl) = absurd n
+  idle-page r h l w n (cut-between l′ cl) = refl
+  idle-page r h l w n no-step-left = refl
+  idle-page r h l w n no-plan = refl
 
   can-happen : Judged chip → (r : Region chip) (l : Last) (c : Call) (a : Snapshot chip) (i : ℕ) (e : Step) (es : List Step) → Harmless r e
       → ImageOf e (asked c a i) → StepOfBytes e → CanHappen r l c a i e es
@@ -264,11 +294,11 @@ module _ {chip : LargeChip} where
     done = λ left allows.
         let w = leave-step (asked c a i) left e r h (ok .within) (λ p. done-takes (asked c a i) e (left p) im by (allows p)) in
         let z = after-step (w .s) es l in
-        (w .s, z .0, w .is-left, step-done (w .s) (z .0) (w .others) (left-done (asked c a i) left e r (w .s) allows (w .is-left)) (z .1));
+        (w .s, z .0, w .is-left, (step-done (w .s) (z .0) (w .others) (left-done (asked c a i) left e r (w .s) allows (w .is-left)) (z .1), refl));
     cut = λ left allows.
         let w = leave-step (asked c a i) left e r h (ok .within) (λ p. cut-takes (asked c a i) e (left p) im by (allows p)) in
         let z = can-close (w .s) l in
-        (w .s, z .0, w .is-left, step-cut (w .s) (z .0) (w .others) (left-cut (asked c a i) left e r (w .s) allows (w .is-left)) (z .1));
+        (w .s, z .0, w .is-left, (step-cut (w .s) (z .0) (w .others) (left-cut (asked c a i) left e r (w .s) allows (w .is-left)) (z .1), refl));
   }
 
 pub nothing-left-out : NothingLeftOut
@@ -278,10 +308,10 @@ nothing-left-out n chip e = record {
       let p = demand3 n chip e .promise s h .next-step in
       can-happen ok r l c a i e′ es (p .0) (p .1 .by-image) (bytes-next ok e′ t);
   plans = can-plan ok;
-  refusals = λ r h l call x a. plan-refused call x a;
-  cuts = λ r h l l′ cl. cut-between l′ cl;
-  no-step = with-no-step;
-  no-page = with-no-page;
+  refusals = λ r h l call x a. ((plan-refused call x a, refl), λ w c. must-refuse r h l call x w a c);
+  cuts = λ r h l l′ cl. (cut-between l′ cl, refl);
+  no-step = λ r h l n. (can-idle r h l n, λ w c. must-idle r h l w n c);
+  no-page = idle-page;
   closes = can-close;
   from-settled = λ r w q a. update-reads ok r w q (plan-asked ok r (for-update w) q a);
 }
