@@ -146,7 +146,8 @@ module _ {chip : LargeChip} where
   unfolding seen pageOf kindOf
   stands-seen r b p k j t o len h =
       let l : List ℕ = bytesAt r b p in
-      let tail : drop 2062 l ≡ imageTail k (t .version) = h .oob-as-asked ∙ image-tail k t p in
+      let as-asked : drop 2062 l ≡ drop 2062 (pageImage k t p) = h .oob-as-asked in
+      let tail : drop 2062 l ≡ imageTail k (t .version) = as-asked ∙ image-tail k t p in
       let at : (i : ℕ) → getD l (2062 + i) 0 ≡ getD (imageTail k (t .version)) i 0 =
       λ i. sym (getD-drop 2062 l i 0) ∙ ap (λ (m : List ℕ). getD m i 0) tail in
       let e : kindOf l ≡ k = rw (at 0, at 1, at 2, at 3) (tail-kind (t .version) o) in
