@@ -15,7 +15,6 @@ use Rattle.bits.specs.Bytes.{wordBytes}
 use Rattle.chip.specs.Large.{pagesOf}
 use Rattle.chip.specs.declared.LargeChip.{LargeChip}
 use Rattle.bbt.specs.declared.Kind.{Kind}
-use Rattle.bbt.specs.declared.Kind.the-variants.{Primary, Mirror}
 use Rattle.bbt.specs.Copies.{Table, pagePart, parts, table}
 use Rattle.bbt.specs.Entries.{updatedByte, updatedBytes, andBytes}
 use Rattle.bbt.specs.Histories.{Snapshot}
@@ -207,7 +206,7 @@ bytes-steps : (P : ℕ) (q : Plan) → PlanOfBytes q → StepsOfBytes (stepsOf P
 unfolding stepsOf copySteps
 bytes-steps P (idle v) h = tt
 bytes-steps P (single k b g t) h = (tt, bytes-writes P 0 b k t [] h tt)
-bytes-steps P (double p m t) h = (tt, bytes-writes P 0 p Primary t (copySteps P m Mirror t []) h (tt, bytes-writes P 0 m Mirror t [] h tt))
+bytes-steps P (double p m t) h = (tt, bytes-writes P 0 _ _ t _ h (tt, bytes-writes P 0 _ _ t [] h tt))
 
 bytes-from : (l : List Step) (i : ℕ) (e : Step) {es : List Step} → stepsFrom l i ≡ e ∷ es → StepsOfBytes l → StepOfBytes e
 unfolding stepsFrom

@@ -1,4 +1,4 @@
--- Laws of a block, for any number of pages: which pages spoil a copy, what a good copy is not, and that a block whose pages were all
+-- Laws of a block, for any number of pages: which pages are of no copy, what a good copy is not, and that a block whose pages were all
 -- written is a good copy of the table.
 -- Assumes nothing.
 use mathlib.Core.Bool.{true, false, false≢true}
@@ -76,7 +76,7 @@ parts-chunks (suc n) f t h =
 
 -- ---- a block
 module _ (P : ℕ) (some-page : 0 < P) (R : View) (b : ℕ) where
-  -- one foreign page spoils a copy
+  -- with one such page the block is no good copy
   pub not-good : (k j : Kind) → Twin k j → (p : ℕ) → p < P → Foreign k (R b p) → good P R k b ≡ false
   unfolding good
   not-good k j o p l h = all-not P (λ p. isPage k (pageVersion (R b 0)) (R b p)) p l (foreign-page k j (pageVersion (R b 0)) o (R b p) h)

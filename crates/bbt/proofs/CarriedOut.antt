@@ -3,20 +3,19 @@
 use mathlib.Core.List.{List, []}
 use mathlib.Core.Logic.{_≢_}
 use mathlib.Core.Path.{_≡_, refl, sym, ap, _∙_, subst}
-use Prim.Native.Nat.{ℕ, zero, suc, _+_}
+use Prim.Native.Nat.{ℕ, zero, suc, _+_, _*_}
 use native.Mathlib.Omega.{arith}
 use lib.ListN.{length}
 use Rattle.chip.specs.Large.{bitmapBytes, pagesOf}
 use Rattle.chip.specs.declared.LargeChip.{LargeChip}
 use Rattle.bbt.specs.declared.Kind.{Kind}
-use Rattle.bbt.specs.declared.Kind.the-variants.{Primary, Mirror}
 use Rattle.bbt.specs.CarriedOut.{stepCount, Carried, all-done, one-done, ReadsAs, EndsSettled}
 use Rattle.bbt.specs.Copies.{Table}
 use Rattle.bbt.specs.Histories.{Snapshot, snapshot, asked}
 use Rattle.bbt.specs.Plans.{Step, Plan, idle, single, double, writes, copySteps, stepsOf, reading, holds, Call, for-update}
 use Rattle.bbt.specs.Regions.{Region, view}
 use Rattle.bbt.proofs.Forms.{Sole, sole-clear, sole-in, sole-fit, sole-length, sole-apart}
-use Rattle.bbt.proofs.LeftPages.{Judged, judge, Twin, primary-kind, mirror-kind}
+use Rattle.bbt.proofs.LeftPages.{Judged, judge, Twin, twin-sym, primary-kind, mirror-kind}
 use Rattle.bbt.proofs.Numbering.{Tracked, track-first, track-next, track-numbered}
 use Rattle.bbt.proofs.Placing.{did, Placing, place-start, place-fill, Went, more, placed, place-done}
 use Rattle.bbt.proofs.Planning.{Update, no-news, news, updates, settled-reading, reading-settled, plan-asked, Ready, nothing-to-do, one-to-place, both-to-place, plan-ready}
@@ -28,11 +27,15 @@ unfolding writes
 length-writes zero p b k t rest = omega arith
 length-writes (suc n) p b k t rest = omega (arith, length-writes n (suc p) b k t rest)
 
+length-two : (P b : ℕ) (k : Kind) (c : ℕ) (j : Kind) (t : Table) → length (copySteps P b k t (copySteps P c j t [])) ≡ 2 * P + 2
+unfolding copySteps
+length-two P b k c j t = omega (arith, length-writes P 0 b k t (copySteps P c j t []), length-writes P 0 c j t [])
+
 length-steps : (P : ℕ) (q : Plan) → length (stepsOf P q) ≡ stepCount P q
 unfolding stepsOf copySteps
 length-steps P (idle v) = refl
 length-steps P (single k b g t) = omega (arith, length-writes P 0 b k t [])
-length-steps P (double p m t) = omega (arith, length-writes P 0 p Primary t (copySteps P m Mirror t []), length-writes P 0 m Mirror t [])
+length-steps P (double p m t) = length-two P _ _ _ _ t
 
 -- a copy being written has a step left
 has-step : {chip : LargeChip} {r : Region chip} {k j : Kind} {b g : ℕ} {x c : Table} {rest es : List Step} → Placing r k j b g x c rest es → es ≢ []
@@ -75,21 +78,23 @@ module _ {chip : LargeChip} (ok : Judged chip) (call : Call) (a : Snapshot chip)
   reads-single primary-kind all-done x y = settled-reading y x
   reads-single mirror-kind all-done x y = settled-reading x y
 
-  reads-both : {p m : ℕ} {t : Table} {s u : Region chip} {i : ℕ} → Carried call a i [] s u → Sole s Primary p t → Sole s Mirror m t
-      → reading chip (view u) ≡ holds p m t
-  reads-both all-done x y = settled-reading x y
+  both-stand : {k j : Kind} {b g : ℕ} {t : Table} {s u : Region chip} {i : ℕ} → Carried call a i [] s u → Sole s k b t → Sole s j g t
+      → Sole u k b t × Sole u j g t
+  both-stand all-done x y = (x, y)
 
-  -- the mirror after the primary
-  carry-second : {u : Region chip} {p m : ℕ} {t y : Table} → length (t .bitmap) ≡ bitmapBytes chip
-      → Stood u Primary Mirror p m t y (copySteps (pagesOf chip) m Mirror t []) → reading chip (view u) ≡ holds p m t
+  -- one copy after the other
+  carry-both : {r u : Region chip} {k j : Kind} {b g : ℕ} {x y t : Table} → Twin k j → length (t .bitmap) ≡ bitmapBytes chip → Sole r k b x → Sole r j g y
+      → Tracked call a 0 (copySteps (pagesOf chip) b k t (copySteps (pagesOf chip) g j t []))
+      → Carried call a 0 (copySteps (pagesOf chip) b k t (copySteps (pagesOf chip) g j t [])) r u → Sole u k b t × Sole u j g t
   unfolding copySteps
-  carry-second {u} {p} {m} {t} len f =
-      let n : Sole (f .s) Primary p t = f .copy in
-      let w = f .twin in
-      let z : Stood u Mirror Primary m p t t [] =
-      carry-copy mirror-kind len (f .carried) (place-start refl n (sole-clear ok w) (sole-fit ok w) (sole-in ok w) (sole-apart ok primary-kind w n))
-      (f .tracked) in
-      reads-both {s = z .s} {i = z .i} (z .carried) (z .twin) (z .copy)
+  carry-both {r} {u} {k} {j} {b} {g} {x} {y} {t} o len v w tr on =
+      let f : Stood u k j b g t y (copySteps (pagesOf chip) g j t []) =
+      carry-copy o len on (place-start refl w (sole-clear ok v) (sole-fit ok v) (sole-in ok v) (sole-apart ok (twin-sym o) v w)) tr in
+      let n : Sole (f .s) k b t = f .copy in
+      let h : Sole (f .s) j g y = f .twin in
+      let z : Stood u j k g b t t [] =
+      carry-copy (twin-sym o) len (f .carried) (place-start refl n (sole-clear ok h) (sole-fit ok h) (sole-in ok h) (sole-apart ok o h n)) (f .tracked) in
+      both-stand {s = z .s} {i = z .i} (z .carried) (z .twin) (z .copy)
 
   -- ---- a plan
   carry-plan : {r u : Region chip} (q : Plan) → Ready r q → Tracked call a 0 (stepsOf (pagesOf chip) q) → Carried call a 0 (stepsOf (pagesOf chip) q) r u
@@ -99,9 +104,7 @@ module _ {chip : LargeChip} (ok : Judged chip) (call : Call) (a : Snapshot chip)
   carry-plan q (one-to-place o t cl ft hb ne) tr on =
       let z = carry-copy o (sole-length ok t) on (place-start refl t cl ft hb ne) tr in
       reads-single o (z .carried) (z .twin) (z .copy)
-  carry-plan q (both-to-place x y len) tr on =
-      carry-second len
-      (carry-copy primary-kind len on (place-start refl y (sole-clear ok x) (sole-fit ok x) (sole-in ok x) (sole-apart ok mirror-kind x y)) tr)
+  carry-plan q (both-to-place x y len) tr on = let z = carry-both primary-kind len x y tr on in settled-reading (z .0) (z .1)
 
 -- ---- the claim
 -- an update ends with the new table, in the old one's blocks

@@ -3,7 +3,7 @@
 use mathlib.Core.Bool.{Bool, true, false}
 use mathlib.Core.List.{List}
 use mathlib.Core.Path.{_≡_, refl, sym, ap, _∙_}
-use Prim.Native.Nat.{ℕ, _+_, _*_, _<_, _≤_, min}
+use Prim.Native.Nat.{ℕ, _+_, _*_, _<_, min}
 use native.Mathlib.Omega.{arith}
 use borrow.Author.Tests.{eqb-true}
 use lib.Dec.{eqb}
@@ -11,7 +11,7 @@ use lib.ListN.{length, take, getD, length-take, length-drop}
 use lib.Seq.{getD-take, ext-getD}
 use Rattle.chip.specs.Large.{pagesOf}
 use Rattle.chip.specs.declared.LargeChip.{LargeChip}
-use Rattle.bbt.specs.Dependence.{byteIn, WellRead, Alike, Dependence}
+use Rattle.bbt.specs.Dependence.{WellRead, Alike, Dependence}
 use Rattle.bbt.specs.Images.{planImage}
 use Rattle.bbt.specs.Lent.{regionLent, lentReading, tableReading, lentPlan, planned, imaged}
 use Rattle.bbt.specs.Pages.{pageStatus, pageBytes, kindOf, versionOf, partLength, badPage, pageOf, seen}
@@ -53,10 +53,10 @@ module _ (chip : LargeChip) (status x y : List ℕ) (alike : Alike chip status x
   unfolding kindOf
   page-alike b p well =
       let i : ℕ = b * pagesOf chip + p in
-      let oob : (j : ℕ) → 14 ≤ j → j ≤ 18 → byteIn chip x b p (2048 + j) ≡ byteIn chip y b p (2048 + j) = λ j. alike .oob b p j well in
+      let oob = alike .oob b p in
       record {
-        kind = rw (oob 14 (omega arith) (omega arith), oob 15 (omega arith) (omega arith), oob 16 (omega arith) (omega arith), oob 17 (omega arith) (omega arith));
-        version = oob 18 (omega arith) (omega arith);
+        kind = rw (oob 14 well (omega arith) (omega arith), oob 15 well (omega arith) (omega arith), oob 16 well (omega arith) (omega arith), oob 17 well (omega arith) (omega arith));
+        version = oob 18 well (omega arith) (omega arith);
         part =
             take-agrees (partLength chip p) (pageBytes x i) (pageBytes y i) (page-lengths i) (λ j l. alike .bitmap b p j well l);
         mark = λ z. rw z (alike .mark b (rw z at well));

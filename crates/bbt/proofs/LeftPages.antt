@@ -28,6 +28,7 @@ pub record Judged (chip : LargeChip) : Type 0 where
   pub some-page : 0 < pagesOf chip
   pub fours : chip .blocks % 4 ≡ 0
   pub within : chip .region ≤ chip .blocks
+  pub four : chip .region ≡ 4
 
 pub judge : (n : ℕ) (chip : LargeChip) → chipOf n ≡ Chip chip → Judged chip
 judge n chip e =
@@ -37,6 +38,7 @@ judge n chip e =
       some-page = v .some-page;
       fours = ap (λ (m : ℕ). m % 4) (v .blocks) ∙ v .fours;
       within = omega (arith, v .blocks, v .region, v .least);
+      four = v .region;
     }
 
 -- ---- the two kinds of a copy
@@ -144,7 +146,8 @@ module _ {chip : LargeChip} where
   unfolding seen pageOf kindOf
   stands-seen r b p k j t o len h =
       let l : List ℕ = bytesAt r b p in
-      let tail : drop 2062 l ≡ imageTail k (t .version) = h .oob-as-asked ∙ image-tail k t p in
+      let as-asked : drop 2062 l ≡ drop 2062 (pageImage k t p) = h .oob-as-asked in
+      let tail : drop 2062 l ≡ imageTail k (t .version) = as-asked ∙ image-tail k t p in
       let at : (i : ℕ) → getD l (2062 + i) 0 ≡ getD (imageTail k (t .version)) i 0 =
       λ i. sym (getD-drop 2062 l i 0) ∙ ap (λ (m : List ℕ). getD m i 0) tail in
       let e : kindOf l ≡ k = rw (at 0, at 1, at 2, at 3) (tail-kind (t .version) o) in

@@ -6,7 +6,7 @@ pub mod Parting
 pub mod Raw
 pub mod Views
 pub mod Dependence
--- demand 3: pages and blocks, the invariant's forms, a copy being written, what is planned, and the theorem
+-- demand 3: pages and blocks, the invariant's forms, a copy being written, what is planned, every event, and the theorem
 pub mod LeftPages
 pub mod Blocks
 pub mod Forms
@@ -15,11 +15,13 @@ pub mod Placing
 pub mod Updating
 pub mod Planning
 pub mod Numbering
+pub mod Events
 pub mod PowerCuts
 -- a plan carried out uncut
 pub mod CarriedOut
--- that nothing is left out of the histories, and two of them by number
+-- that nothing is left out of the histories, that every settled table is a start, and two histories by number
 pub mod AllBytes
 pub mod Putting
 pub mod Possible
+pub mod Starts
 pub mod Example

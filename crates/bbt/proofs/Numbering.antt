@@ -38,18 +38,18 @@ from-told f [] (suc i) h = absurd (no-confusion (cc))
 from-told f (x ∷ xs) zero {e} {es} h = let q : x ≡ e = cc in ap f q
 from-told f (x ∷ xs) (suc i) h = from-told f xs i h
 
-first-pictured : (x : Step) (xs : List Step) → ImageOf x (imageAt (x ∷ xs) 0)
+first-image : (x : Step) (xs : List Step) → ImageOf x (imageAt (x ∷ xs) 0)
 unfolding imageAt
-first-pictured (erase b) xs = refl
-first-pictured (write b p k t) xs = refl
+first-image (erase b) xs = refl
+first-image (write b p k t) xs = refl
 
-from-pictured : (l : List Step) (i : ℕ) (e : Step) {es : List Step} → stepsFrom l i ≡ e ∷ es → ImageOf e (imageAt l i)
+from-image : (l : List Step) (i : ℕ) (e : Step) {es : List Step} → stepsFrom l i ≡ e ∷ es → ImageOf e (imageAt l i)
 unfolding stepsFrom imageAt
-from-pictured [] zero e h = absurd (no-confusion (cc))
-from-pictured [] (suc i) e h = absurd (no-confusion (cc))
-from-pictured (x ∷ xs) zero e h = let q : x ≡ e = cc in rw (← q) (first-pictured x xs)
-from-pictured (erase b ∷ xs) (suc i) e h = from-pictured xs i e h
-from-pictured (write b p k t ∷ xs) (suc i) e h = from-pictured xs i e h
+from-image [] zero e h = absurd (no-confusion (cc))
+from-image [] (suc i) e h = absurd (no-confusion (cc))
+from-image (x ∷ xs) zero e h = let q : x ≡ e = cc in rw (← q) (first-image x xs)
+from-image (erase b ∷ xs) (suc i) e h = from-image xs i e h
+from-image (write b p k t ∷ xs) (suc i) e h = from-image xs i e h
 
 -- ---- the plan in hand
 module _ {chip : LargeChip} where
@@ -99,5 +99,5 @@ module _ {chip : LargeChip} (ok : Judged chip) where
         made = t .made;
         by-plan = t .by-plan;
         by-number = ap (λ (es : List ToldStep). nthStep es i) (tells-steps chip (t .made)) ∙ from-told (toldStep chip) l i (t .left);
-        by-image = rw (asked-is ok a call i, t .by-plan) (from-pictured l i e (t .left));
+        by-image = rw (asked-is ok a call i, t .by-plan) (from-image l i e (t .left));
       }

@@ -3,7 +3,7 @@
 -- Assumes nothing.
 use mathlib.Core.Bool.{false}
 use mathlib.Core.List.{List}
-use mathlib.Core.Path.{_≡_, ap, _∙_}
+use mathlib.Core.Path.{_≡_, refl, ap, _∙_}
 use Prim.Native.Nat.{ℕ}
 use lib.ListN.{length}
 use Rattle.chip.specs.Large.{bitmapBytes}
@@ -44,6 +44,12 @@ module _ {chip : LargeChip} where
   kept-fit {r} {s} {b} h e = ap isMarked (kept-seen r s b 0 h) ∙ e
 
   -- ---- kept, it is what it was
+  pub kept-refl : (r : Region chip) (b p : ℕ) → Kept r r b p
+  kept-refl r b p = record { same-status = refl; same-bytes = refl }
+
+  pub kept-trans : {r s u : Region chip} {b p : ℕ} → Kept r s b p → Kept s u b p → Kept r u b p
+  kept-trans x y = record { same-status = y .same-status ∙ x .same-status; same-bytes = y .same-bytes ∙ x .same-bytes }
+
   pub complete-kept : {r s : Region chip} {b p : ℕ} {page : List ℕ} → Kept r s b p → Complete r b p page → Complete s b p page
   complete-kept e h =
       record {

@@ -65,10 +65,10 @@ module _ {chip : LargeChip} where
     placed : es ≡ rest → Sole s j g c → Sole s k b x → Whole s k b x → Went s k j b g x c rest es
 
   -- what a step of it, cut, leaves
-  pub data Left (r s : Region chip) (k j : Kind) (b g : ℕ) (x c : Table) : Type 0 where
-    unchanged : Frame r s (chip .region) → Left r s k j b g x c
-    lacks : Lacks s k j g c → Left r s k j b g x c
-    whole : Sole s j g c → Sole s k b x → Whole s k b x → Left r s k j b g x c
+  pub data Remains (r s : Region chip) (k j : Kind) (b g : ℕ) (x c : Table) : Type 0 where
+    unchanged : Frame r s (chip .region) → Remains r s k j b g x c
+    lacks : Lacks s k j g c → Remains r s k j b g x c
+    whole : Sole s j g c → Sole s k b x → Whole s k b x → Remains r s k j b g x c
 
 module _ {chip : LargeChip} (ok : Judged chip) where
   -- block z's page p passes for no copy: the twin stays, and kind k is nowhere
@@ -118,7 +118,7 @@ module _ {chip : LargeChip} (ok : Judged chip) where
       }
 
   cut-erase : {r s : Region chip} {k j : Kind} {b g : ℕ} {x c : Table} → OthersKept (erase b) r s → Broke (erase b) r s
-      → Twin k j → Sole r j g c → Clear r k b → readsBad (view r) b ≡ false → b < chip .region → g ≢ b → Left r s k j b g x c
+      → Twin k j → Sole r j g c → Clear r k b → readsBad (view r) b ≡ false → b < chip .region → g ≢ b → Remains r s k j b g x c
   cut-erase {r} {s} {k} {j} {b} {g} {x} {c} f d o t w e hb ne =
       go (all-or-some (pagesOf chip) (λ p. Kept r s b p) (λ p. Blank s b p ⊎ Unreadable s b p) d)
     where
@@ -126,7 +126,7 @@ module _ {chip : LargeChip} (ok : Judged chip) where
       off p (inl z) i = blank-foreign i z
       off p (inr z) i = unreadable-foreign i z
 
-      go : ((p : ℕ) → p < pagesOf chip → Kept r s b p) ⊎ ((p : ℕ) × (p < pagesOf chip) × (Blank s b p ⊎ Unreadable s b p)) → Left r s k j b g x c
+      go : ((p : ℕ) → p < pagesOf chip → Kept r s b p) ⊎ ((p : ℕ) × (p < pagesOf chip) × (Blank s b p ⊎ Unreadable s b p)) → Remains r s k j b g x c
       go (inl h) = unchanged (all-same (erase-frame f) h)
       go (inr h) = lacks (gone (erase-frame f) o t w ne (h .0) (h .1) (off (h .0) (h .2)) (blank-room hb ne (erase-fit d e)))
 
@@ -226,7 +226,7 @@ module _ {chip : LargeChip} (ok : Judged chip) where
         let z : Fill s k j b g x c (suc q) = fill-more (omega arith) d in
         rw w (more (place-fill n (suc q) (omega arith) refl z) (fill-lacks s k j b g x c (suc q) z))
 
-    write-cut : (n : ℕ) → suc n + q ≡ pagesOf chip → Broke (write b q k x) r s → Left r s k j b g x c
+    write-cut : (n : ℕ) → suc n + q ≡ pagesOf chip → Broke (write b q k x) r s → Remains r s k j b g x c
     write-cut n e (inl d) = lacks (lacks-page (inl d) q hq (blank-foreign k d))
     write-cut n e (inr (inr d)) = lacks (lacks-page (inr (inr d)) q hq (unreadable-foreign k d))
     write-cut zero e (inr (inl d)) = whole (twin-kept (inr (inl d))) (fill-end (omega arith) d) (fill-all (omega arith) d)
@@ -244,7 +244,7 @@ module _ {chip : LargeChip} (ok : Judged chip) where
     place-done (place-start w t cl ft hb ne) sp d = start-done (pagesOf chip) refl w (erased x sp d o t cl hb ne full)
     place-done (place-fill n q e w l) sp d = write-done r s k j b g x c q l (omega arith) sp n e w d
 
-    pub place-cut : {e : Step} {es : List Step} → Placing r k j b g x c rest (e ∷ es) → OthersKept e r s → Broke e r s → Left r s k j b g x c
+    pub place-cut : {e : Step} {es : List Step} → Placing r k j b g x c rest (e ∷ es) → OthersKept e r s → Broke e r s → Remains r s k j b g x c
     place-cut (place-start w t cl ft hb ne) sp d = cut-erase sp d o t cl ft hb ne
     place-cut (place-fill n q e w l) sp d = write-cut r s k j b g x c q l (omega arith) sp n e d
 

@@ -313,6 +313,11 @@ module _ {chip : LargeChip} (ok : Judged chip) where
       go (holds p m o) a e = (p, m, o, a)
 
   -- ---- from a sound region
+  pub no-merge : {r : Region chip} {c : Table} → Sound r c → (p m : ℕ) → pairCase chip (view r) ≢ merging p m
+  no-merge (twins {p = a} {m = b} x y) p m e = let z : settled a b ≡ merging p m = sym (settled-case x y) ∙ e in no-confusion (cc)
+  no-merge (ahead {p = a} {m = b} x y v) p m e = let z : differing (pos 1) a b ≡ merging p m = sym (ahead-case x y v) ∙ e in no-confusion (cc)
+  no-merge (one-left {j = j} {g = g} o l) p m e = let z : alone j g ≡ merging p m = sym (left-case o l) ∙ e in no-confusion (cc)
+
   pub recovers : {r : Region chip} {c : Table} → Sound r c → (q : Plan) × (recovery chip (view r) ≡ plan q) × Of c q
   unfolding recovery recoverCase recoverTo recoverNewer
   recovers {r} {c} (twins x y) = (idle (c .version), rw (settled-case x y, x .content), tt)
@@ -324,11 +329,6 @@ module _ {chip : LargeChip} (ok : Judged chip) where
       other : {k j : Kind} → Twin k j → otherKind j ≡ k
       other primary-kind = refl
       other mirror-kind = refl
-
-  pub no-merge : {r : Region chip} {c : Table} → Sound r c → (p m : ℕ) → pairCase chip (view r) ≢ merging p m
-  no-merge (twins {p = a} {m = b} x y) p m e = let z : settled a b ≡ merging p m = sym (settled-case x y) ∙ e in no-confusion (cc)
-  no-merge (ahead {p = a} {m = b} x y v) p m e = let z : differing (pos 1) a b ≡ merging p m = sym (ahead-case x y v) ∙ e in no-confusion (cc)
-  no-merge (one-left {j = j} {g = g} o l) p m e = let z : alone j g ≡ merging p m = sym (left-case o l) ∙ e in no-confusion (cc)
 
   -- the table that is settled is the one the region holds
   pub sound-settled : {r : Region chip} {c t : Table} {p m : ℕ} → Sound r c → Sole r Primary p t → Sole r Mirror m t → t ≡ c

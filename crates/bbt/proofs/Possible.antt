@@ -1,5 +1,5 @@
--- Nothing is left out of the histories: each page can be given any left that a step allows it (`Putting`), its page image is of bytes
--- (`AllBytes`), and whether the new primary is complete can be decided.
+-- Nothing is left out of the histories: each page can be left as a step allows (`Putting`), its page image is of bytes (`AllBytes`), and
+-- whether the new primary is complete can be decided.
 -- Assumes nothing.
 use mathlib.Core.Bool.{Bool, true, false, true≢false}
 use mathlib.Core.List.{List, [], _∷_, _++_}
@@ -13,21 +13,22 @@ use lib.ListN.{length, take, drop, replicate, length-append, length-take, length
 use lib.Seq.{take-at, drop-append-add}
 use Rattle.chip.specs.Large.{pagesOf}
 use Rattle.chip.specs.declared.LargeChip.{LargeChip}
+use Rattle.chip.specs.declared.Refusal.{Refusal}
 use Rattle.bbt.specs.declared.Kind.the-variants.{Primary}
-use Rattle.bbt.specs.Histories.{Written, Done, Cut, OthersKept, Last, one-table, pending, closed, Closes, as-one, as-closed, was-complete, was-not, AfterStep, Snapshot, asked, step-done, step-cut, asPlanned, Hand, snapshot, answer, holding, empty, world, Event, update-planned, recovery-planned, cut-between}
+use Rattle.bbt.specs.Histories.{Written, Done, Cut, OthersKept, Last, one-table, pending, closed, Closes, as-one, as-closed, was-complete, was-not, AfterStep, Snapshot, asked, step-done, step-cut, asPlanned, Hand, snapshot, answer, holding, empty, World, world, Event, plan-refused, update-planned, recovery-planned, cut-between, no-step-left, no-plan}
 use Rattle.bbt.specs.Images.{Imaged, page-image, pageImage}
 use Rattle.bbt.specs.Pairs.{same}
-use Rattle.bbt.specs.Plans.{Step, erase, write, Call, for-update, Plan, stepsOf, plan, updated, for-recovery}
-use Rattle.bbt.specs.Possible.{Bytes, Left, as-it-was, left-blank, left-complete, left-unreadable, CutAllows, DoneAllows, IsLeft, AreLeft, CanHappen, NothingLeftOut}
-use Rattle.bbt.specs.PowerCuts.{ImageOf, Harmless}
+use Rattle.bbt.specs.Plans.{Step, erase, write, Call, for-update, Plan, stepsOf, refuse, plan, updated, for-recovery}
+use Rattle.bbt.specs.Possible.{Bytes, Left, as-it-was, left-blank, left-complete, left-unreadable, CutAllows, DoneAllows, IsLeft, AreLeft, CanHappen, planning, stepping, Can, NoStep, NothingLeftOut}
+use Rattle.bbt.specs.PowerCuts.{ImageOf, Harmless, regionOf}
 use Rattle.bbt.specs.Regions.{Region, statusAt, bytesAt, Blank, Complete, Unreadable, Kept}
 use Rattle.bbt.proofs.LeftPages.{Judged, judge}
 use Rattle.bbt.proofs.Numbering.{started, tracked}
-use Rattle.bbt.proofs.Outcomes.{complete-kept, blank-kept}
+use Rattle.bbt.proofs.Outcomes.{kept-refl, kept-trans, complete-kept, blank-kept}
 use Rattle.bbt.proofs.Planning.{plan-asked, update-reads}
 use Rattle.bbt.proofs.PowerCuts.{demand3}
 use Rattle.bbt.proofs.Putting.{put-page}
-use Rattle.bbt.proofs.Searches.{below-suc, all-or-some, same-refl, same-eq}
+use Rattle.bbt.proofs.Searches.{no-confusion, below-suc, all-or-some, same-refl, same-eq}
 use Rattle.bbt.proofs.AllBytes.{bytes-append, bytes-replicate, bytes-take, bytes-drop, StepOfBytes, bytes-next, image-bytes}
 
 dec-list : (l m : List ℕ) → Dec (l ≡ m)
@@ -75,52 +76,46 @@ module _ (l oob : List ℕ) (page : Bytes 2112 l) (free : Bytes 14 oob) where
   filled-tail =
       filled-from 14 ∙ subst (λ (m : ℕ). drop (m + 0) (oob ++ drop 2062 l) ≡ drop 2062 l) (free .as-many) (drop-append-add oob (drop 2062 l) 0)
 
--- ---- a page given a left
--- what has to be known for it
-abbrev Can : Imaged → Left → Type 0
-Can x as-it-was = Unit {0}
-Can x left-blank = Unit {0}
-Can x (left-complete oob) = Bytes 14 oob × (l : List ℕ) × Bytes 2112 l × (x ≡ page-image l)
-Can x (left-unreadable l) = Bytes 2112 l
+-- ---- a page left as a step allows
+-- what it takes: bytes to put there
+abbrev Takes : Imaged → Left → Type 0
+Takes x as-it-was = Unit {0}
+Takes x left-blank = Unit {0}
+Takes x (left-complete oob) = Bytes 14 oob × (l : List ℕ) × Bytes 2112 l × (x ≡ page-image l)
+Takes x (left-unreadable l) = Bytes 2112 l
 
--- what a step allows can be known of
-done-can : (x : Imaged) (e : Step) (f : Left) → ImageOf e x → StepOfBytes e → DoneAllows e f → Can x f
-done-can x (erase b) f pic sm e = rw e tt
-done-can x (write b p k t) f pic sm (oob, free, e) = rw e (free, pageImage k t p, image-bytes k t p sm, pic)
+-- a step has what it takes for all that it allows
+done-takes : (x : Imaged) (e : Step) (f : Left) → ImageOf e x → StepOfBytes e → DoneAllows e f → Takes x f
+done-takes x (erase b) f im by e = rw e tt
+done-takes x (write b p k t) f im by (oob, free, e) = rw e (free, pageImage k t p, image-bytes k t p by, im)
 
-cut-can : (x : Imaged) (e : Step) (f : Left) → ImageOf e x → StepOfBytes e → CutAllows e f → Can x f
-cut-can x (erase b) as-it-was pic sm h = tt
-cut-can x (erase b) left-blank pic sm h = tt
-cut-can x (erase b) (left-complete oob) pic sm h = absurd h
-cut-can x (erase b) (left-unreadable l) pic sm h = h
-cut-can x (write b p k t) as-it-was pic sm h = absurd h
-cut-can x (write b p k t) left-blank pic sm h = tt
-cut-can x (write b p k t) (left-complete oob) pic sm h = (h, pageImage k t p, image-bytes k t p sm, pic)
-cut-can x (write b p k t) (left-unreadable l) pic sm h = h
+cut-takes : (x : Imaged) (e : Step) (f : Left) → ImageOf e x → StepOfBytes e → CutAllows e f → Takes x f
+cut-takes x (erase b) as-it-was im by h = tt
+cut-takes x (erase b) left-blank im by h = tt
+cut-takes x (erase b) (left-complete oob) im by h = absurd h
+cut-takes x (erase b) (left-unreadable l) im by h = h
+cut-takes x (write b p k t) as-it-was im by h = absurd h
+cut-takes x (write b p k t) left-blank im by h = tt
+cut-takes x (write b p k t) (left-complete oob) im by h = (h, pageImage k t p, image-bytes k t p by, im)
+cut-takes x (write b p k t) (left-unreadable l) im by h = h
 
 module _ {chip : LargeChip} where
-  kept-refl : (r : Region chip) (b p : ℕ) → Kept r r b p
-  kept-refl r b p = record { same-status = refl; same-bytes = refl }
-
-  kept-trans : {r s u : Region chip} {b p : ℕ} → Kept r s b p → Kept s u b p → Kept r u b p
-  kept-trans x y = record { same-status = y .same-status ∙ x .same-status; same-bytes = y .same-bytes ∙ x .same-bytes }
-
   -- one page, all others kept
-  record Given (x : Imaged) (f : Left) (r : Region chip) (b p : ℕ) : Type 0 where
+  record PageLeft (x : Imaged) (f : Left) (r : Region chip) (b p : ℕ) : Type 0 where
     s : Region chip
-    met : IsLeft x f r s b p
+    is-left : IsLeft x f r s b p
     others : (c q : ℕ) → c < chip .region → q < pagesOf chip → ¬ ((c ≡ b) × (q ≡ p)) → Kept r s c q
 
-  give : (x : Imaged) (f : Left) (r : Region chip) (b p : ℕ) → b < chip .region → p < pagesOf chip → Can x f → Given x f r b p
-  give x as-it-was r b p hb hp h = record { s = r; met = kept-refl r b p; others = λ c q hc hq n. kept-refl r c q }
-  give x left-blank r b p hb hp h =
+  leave : (x : Imaged) (f : Left) (r : Region chip) (b p : ℕ) → b < chip .region → p < pagesOf chip → Takes x f → PageLeft x f r b p
+  leave x as-it-was r b p hb hp h = record { s = r; is-left = kept-refl r b p; others = λ c q hc hq n. kept-refl r c q }
+  leave x left-blank r b p hb hp h =
       let w = put-page r b p (replicate 2112 255) 0 hb hp (record { as-many = length-replicate {A = ℕ} 2112 255; below-256 = bytes-replicate 2112 }) (lit< tt) in
-      record { s = w .s; met = record { well = w .here-status; all-ff = w .here-bytes }; others = w .others }
-  give x (left-complete oob) r b p hb hp (free, l, page, e) =
+      record { s = w .s; is-left = record { well = w .here-status; all-ff = w .here-bytes }; others = w .others }
+  leave x (left-complete oob) r b p hb hp (free, l, page, e) =
       let w = put-page r b p (take 2048 l ++ (oob ++ drop 2062 l)) 0 hb hp (filled-bytes l oob page free) (lit< tt) in
       record {
         s = w .s;
-        met = (
+        is-left = (
           record {
             page = l;
             given = e;
@@ -134,42 +129,42 @@ module _ {chip : LargeChip} where
         );
         others = w .others;
       }
-  give x (left-unreadable l) r b p hb hp h =
+  leave x (left-unreadable l) r b p hb hp h =
       let w = put-page r b p l 1 hb hp h (lit< tt) in
-      record { s = w .s; met = (record { fails = w .here-status }, w .here-bytes); others = w .others }
+      record { s = w .s; is-left = (record { fails = w .here-status }, w .here-bytes); others = w .others }
 
   -- ---- the first n pages of a block
-  met-kept : (x : Imaged) (f : Left) (r : Region chip) {s u : Region chip} {b p : ℕ} → Kept s u b p → IsLeft x f r s b p → IsLeft x f r u b p
-  met-kept x as-it-was r k h = kept-trans h k
-  met-kept x left-blank r k h = blank-kept k h
-  met-kept x (left-complete oob) r k (w, e) =
+  left-kept : (x : Imaged) (f : Left) (r : Region chip) {s u : Region chip} {b p : ℕ} → Kept s u b p → IsLeft x f r s b p → IsLeft x f r u b p
+  left-kept x as-it-was r k h = kept-trans h k
+  left-kept x left-blank r k h = blank-kept k h
+  left-kept x (left-complete oob) r k (w, e) =
       (record { page = w .page; given = w .given; complete = complete-kept k (w .complete) }, ap (λ (m : List ℕ). take 14 (drop 2048 m)) (k .same-bytes) ∙ e)
-  met-kept x (left-unreadable l) r k (w, e) = (record { fails = k .same-status ∙ w .fails }, k .same-bytes ∙ e)
+  left-kept x (left-unreadable l) r k (w, e) = (record { fails = k .same-status ∙ w .fails }, k .same-bytes ∙ e)
 
-  met-since : (x : Imaged) (f : Left) {r s : Region chip} (u : Region chip) {b p : ℕ} → Kept r s b p → IsLeft x f s u b p → IsLeft x f r u b p
-  met-since x as-it-was u k h = kept-trans k h
-  met-since x left-blank u k h = h
-  met-since x (left-complete oob) u k h = h
-  met-since x (left-unreadable l) u k h = h
+  left-since : (x : Imaged) (f : Left) {r s : Region chip} (u : Region chip) {b p : ℕ} → Kept r s b p → IsLeft x f s u b p → IsLeft x f r u b p
+  left-since x as-it-was u k h = kept-trans k h
+  left-since x left-blank u k h = h
+  left-since x (left-complete oob) u k h = h
+  left-since x (left-unreadable l) u k h = h
 
-  record GivenUpTo (x : Imaged) (left : ℕ → Left) (r : Region chip) (b n : ℕ) : Type 0 where
+  record PagesLeft (x : Imaged) (left : ℕ → Left) (r : Region chip) (b n : ℕ) : Type 0 where
     s : Region chip
-    met : (p : ℕ) → p < n → IsLeft x (left p) r s b p
+    is-left : (p : ℕ) → p < n → IsLeft x (left p) r s b p
     rest : (p : ℕ) → n ≤ p → p < pagesOf chip → Kept r s b p
     others : (c q : ℕ) → c < chip .region → q < pagesOf chip → ¬ (c ≡ b) → Kept r s c q
 
-  give-all : (x : Imaged) (left : ℕ → Left) → ((p : ℕ) → Can x (left p)) → (r : Region chip) (b : ℕ) → b < chip .region → (n : ℕ) → n ≤ pagesOf chip
-      → GivenUpTo x left r b n
-  give-all x left can r b hb zero hn =
-      record { s = r; met = λ p l. absurd (omega arith); rest = λ p l h. kept-refl r b p; others = λ c q hc hq n. kept-refl r c q }
-  give-all x left can r b hb (suc n) hn =
-      let a = give-all x left can r b hb n (omega arith) in
-      let w = give x (left n) (a .s) b n hb (omega arith) (can n) in
+  leave-pages : (x : Imaged) (left : ℕ → Left) → ((p : ℕ) → Takes x (left p)) → (r : Region chip) (b : ℕ) → b < chip .region → (n : ℕ) → n ≤ pagesOf chip
+      → PagesLeft x left r b n
+  leave-pages x left can r b hb zero hn =
+      record { s = r; is-left = λ p l. absurd (omega arith); rest = λ p l h. kept-refl r b p; others = λ c q hc hq n. kept-refl r c q }
+  leave-pages x left can r b hb (suc n) hn =
+      let a = leave-pages x left can r b hb n (omega arith) in
+      let w = leave x (left n) (a .s) b n hb (omega arith) (can n) in
       record {
         s = w .s;
-        met = λ p l. elim (below-suc l) [
-          | inl e ↦ rw e (met-since x (left n) (w .s) (a .rest n (omega arith) (omega arith)) (w .met))
-          | inr m ↦ met-kept x (left p) r (w .others b p hb (omega arith) (λ t. omega (arith, t .1))) (a .met p m)
+        is-left = λ p l. elim (below-suc l) [
+          | inl e ↦ rw e (left-since x (left n) (w .s) (a .rest n (omega arith) (omega arith)) (w .is-left))
+          | inr m ↦ left-kept x (left p) r (w .others b p hb (omega arith) (λ t. omega (arith, t .1))) (a .is-left p m)
         ];
         rest = λ p l h. kept-trans (a .rest p (omega arith) h) (w .others b p hb h (λ t. omega (arith, t .1)));
         others = λ c q hc hq ne. kept-trans (a .others c q hc hq ne) (w .others c q hc hq (λ t. ne (t .0)));
@@ -202,37 +197,37 @@ module _ {chip : LargeChip} where
   after-step s (e ∷ es) l = (l, refl)
 
   -- ---- the next step
-  -- its pages can meet any left that can be known of
+  -- its pages can be left as it allows
   record Stepped (x : Imaged) (left : ℕ → Left) (e : Step) (r : Region chip) : Type 0 where
     s : Region chip
-    met : AreLeft x left e r s
+    is-left : AreLeft x left e r s
     others : OthersKept e r s
 
-  step-given : (x : Imaged) (left : ℕ → Left) (e : Step) (r : Region chip) → Harmless r e → chip .region ≤ chip .blocks → ((p : ℕ) → Can x (left p)) → Stepped x left e r
-  step-given x left (erase b) r h w can =
-      let a = give-all x left can r b (omega (arith, h .0 .1)) (pagesOf chip) (omega arith) in
-      record { s = a .s; met = a .met; others = a .others }
-  step-given x left (write b p k t) r h w can =
-      let a = give x (left p) r b p (omega (arith, h .0 .1)) (h .1) (can p) in
-      record { s = a .s; met = a .met; others = a .others }
+  leave-step : (x : Imaged) (left : ℕ → Left) (e : Step) (r : Region chip) → Harmless r e → chip .region ≤ chip .blocks → ((p : ℕ) → Takes x (left p)) → Stepped x left e r
+  leave-step x left (erase b) r h w can =
+      let a = leave-pages x left can r b (omega (arith, h .0 .1)) (pagesOf chip) (omega arith) in
+      record { s = a .s; is-left = a .is-left; others = a .others }
+  leave-step x left (write b p k t) r h w can =
+      let a = leave x (left p) r b p (omega (arith, h .0 .1)) (h .1) (can p) in
+      record { s = a .s; is-left = a .is-left; others = a .others }
 
-  -- and is what a step, done or cut, leaves
-  done-met : (x : Imaged) (left : ℕ → Left) (e : Step) (r s : Region chip) → ((p : ℕ) → DoneAllows e (left p)) → AreLeft x left e r s → Done x e s
-  done-met x left (erase b) r s ok h = λ p l. rw (ok p) at (h p l)
-  done-met x left (write b p k t) r s ok h = go (left p) (ok p) h
+  -- and so left, they are what a step, done or cut, leaves
+  left-done : (x : Imaged) (left : ℕ → Left) (e : Step) (r s : Region chip) → ((p : ℕ) → DoneAllows e (left p)) → AreLeft x left e r s → Done x e s
+  left-done x left (erase b) r s ok h = λ p l. rw (ok p) at (h p l)
+  left-done x left (write b p k t) r s ok h = go (left p) (ok p) h
     where
       go : (f : Left) → DoneAllows (write b p k t) f → IsLeft x f r s b p → Written s b p x
       go f (oob, free, e) h = let z : IsLeft x (left-complete oob) r s b p = rw e at h in z .0
 
-  cut-met : (x : Imaged) (left : ℕ → Left) (e : Step) (r s : Region chip) → ((p : ℕ) → CutAllows e (left p)) → AreLeft x left e r s → Cut x e r s
-  cut-met x left (erase b) r s ok h = λ p l. go p (left p) (ok p) (h p l)
+  left-cut : (x : Imaged) (left : ℕ → Left) (e : Step) (r s : Region chip) → ((p : ℕ) → CutAllows e (left p)) → AreLeft x left e r s → Cut x e r s
+  left-cut x left (erase b) r s ok h = λ p l. go p (left p) (ok p) (h p l)
     where
       go : (p : ℕ) (f : Left) → CutAllows (erase b) f → IsLeft x f r s b p → Kept r s b p ⊎ (Blank s b p ⊎ Unreadable s b p)
       go p as-it-was ok h = inl h
       go p left-blank ok h = inr (inl h)
       go p (left-complete oob) ok h = absurd ok
       go p (left-unreadable l) ok h = inr (inr (h .0))
-  cut-met x left (write b p k t) r s ok h = go (left p) (ok p) h
+  left-cut x left (write b p k t) r s ok h = go (left p) (ok p) h
     where
       go : (f : Left) → CutAllows (write b p k t) f → IsLeft x f r s b p → Blank s b p ⊎ (Written s b p x ⊎ Unreadable s b p)
       go as-it-was ok h = absurd ok
@@ -240,28 +235,70 @@ module _ {chip : LargeChip} where
       go (left-complete oob) ok h = inr (inl (h .0))
       go (left-unreadable l) ok h = inr (inr (h .0))
 
-  -- ---- plans, and cuts between steps
+  -- ---- plans
   can-plan : Judged chip → (r : Region chip) (h : Hand chip) (l : Last) (call : Call) (q : Plan) → answer call (snapshot r) ≡ plan q
-      → (l′ : Last) × Event r l h (world r (holding call (snapshot r) 0 (stepsOf (pagesOf chip) q)) l′)
+      → (l′ : Last) × Can r l h (planning call) (world r (holding call (snapshot r) 0 (stepsOf (pagesOf chip) q)) l′)
   can-plan ok r h l (for-update w) q e =
       let s = update-reads ok r w q (plan-asked ok r (for-update w) q e) in
-      (asPlanned (s .2) (updated (s .2) w) q, update-planned w (s .0) (s .1) (s .2) q e (s .3))
-  can-plan ok r h l for-recovery q e = let z = can-close r l in (z .0, recovery-planned q (z .0) e (z .1))
+      (asPlanned (s .2) (updated (s .2) w) q, (update-planned w (s .0) (s .1) (s .2) q e (s .3), refl))
+  can-plan ok r h l for-recovery q e = let z = can-close r l in (z .0, (recovery-planned q (z .0) e (z .1), refl))
 
-  can-cut : (r : Region chip) (h : Hand chip) (l : Last) → (l′ : Last) × Event r l h (world r empty l′)
-  can-cut r h l = let z = can-close r l in (z .0, cut-between (z .0) (z .1))
+  -- ---- a refused plan
+  -- a plan that was asked for is the one in question, which is refused
+  not-planned : (r : Region chip) (c d : Call) (q : Plan) (x : Refusal) → answer d (snapshot r) ≡ refuse x → answer c (snapshot r) ≡ plan q → planning c ≡ planning d → ⊥
+  not-planned r c d q x a e k =
+      let i : c ≡ d = cc in
+      let z : refuse x ≡ plan q = sym a ∙ (ap (λ (call : Call). answer call (snapshot r)) (sym i) ∙ e) in
+      no-confusion (cc)
+
+  must-refuse : (r : Region chip) (h : Hand chip) (l : Last) (call : Call) (x : Refusal) (w : World chip) → answer call (snapshot r) ≡ refuse x
+      → Can r l h (planning call) w → w ≡ world r h l
+  must-refuse r h l call x w a (plan-refused c y e, k) = refl
+  must-refuse r h l call x w a (update-planned wanted p m o q e s, k) = absurd (not-planned r (for-update wanted) call q x a e k)
+  must-refuse r h l call x w a (recovery-planned q l′ e cl, k) = absurd (not-planned r for-recovery call q x a e k)
+  must-refuse r h l call x w a (step-done s l′ o d en, k) = absurd (no-confusion (cc))
+  must-refuse r h l call x w a (step-cut s l′ o d cl, k) = absurd (no-confusion (cc))
+  must-refuse r h l call x w a (cut-between l′ cl, k) = absurd (no-confusion (cc))
+  must-refuse r h l call x w a (no-step-left, k) = absurd (no-confusion (cc))
+  must-refuse r h l call x w a (no-plan, k) = absurd (no-confusion (cc))
+
+  -- ---- with no step left
+  can-idle : (r : Region chip) (h : Hand chip) (l : Last) → NoStep h → Can r l h stepping (world r h l)
+  can-idle r empty l n = (no-plan, refl)
+  can-idle r (holding c a i []) l n = (no-step-left, refl)
+  can-idle r (holding c a i (e ∷ es)) l n = absurd n
+
+  must-idle : (r : Region chip) (h : Hand chip) (l : Last) (w : World chip) → NoStep h → Can r l h stepping w → w ≡ world r h l
+  must-idle r h l w n (plan-refused call x e, k) = absurd (no-confusion (cc))
+  must-idle r h l w n (update-planned wanted p m o q e s, k) = absurd (no-confusion (cc))
+  must-idle r h l w n (recovery-planned q l′ e cl, k) = absurd (no-confusion (cc))
+  must-idle r h l w n (step-done s l′ o d en, k) = absurd n
+  must-idle r h l w n (step-cut s l′ o d cl, k) = absurd n
+  must-idle r h l w n (cut-between l′ cl, k) = absurd (no-confusion (cc))
+  must-idle r h l w n (no-step-left, k) = refl
+  must-idle r h l w n (no-plan, k) = refl
+
+  idle-page : (r : Region chip) (h : Hand chip) (l : Last) (w : World chip) → NoStep h → Event r l h w → regionOf w ≡ r
+  idle-page r h l w n (plan-refused call x e) = refl
+  idle-page r h l w n (update-planned wanted p m o q e s) = refl
+  idle-page r h l w n (recovery-planned q l′ e cl) = refl
+  idle-page r h l w n (step-done s l′ k d en) = absurd n
+  idle-page r h l w n (step-cut s l′ k d cl) = absurd n
+  idle-page r h l w n (cut-between l′ cl) = refl
+  idle-page r h l w n no-step-left = refl
+  idle-page r h l w n no-plan = refl
 
   can-happen : Judged chip → (r : Region chip) (l : Last) (c : Call) (a : Snapshot chip) (i : ℕ) (e : Step) (es : List Step) → Harmless r e
       → ImageOf e (asked c a i) → StepOfBytes e → CanHappen r l c a i e es
-  can-happen ok r l c a i e es h pic sm = record {
+  can-happen ok r l c a i e es h im by = record {
     done = λ left allows.
-        let w = step-given (asked c a i) left e r h (ok .within) (λ p. done-can (asked c a i) e (left p) pic sm (allows p)) in
+        let w = leave-step (asked c a i) left e r h (ok .within) (λ p. done-takes (asked c a i) e (left p) im by (allows p)) in
         let z = after-step (w .s) es l in
-        (w .s, z .0, w .met, step-done (w .s) (z .0) (w .others) (done-met (asked c a i) left e r (w .s) allows (w .met)) (z .1));
+        (w .s, z .0, w .is-left, (step-done (w .s) (z .0) (w .others) (left-done (asked c a i) left e r (w .s) allows (w .is-left)) (z .1), refl));
     cut = λ left allows.
-        let w = step-given (asked c a i) left e r h (ok .within) (λ p. cut-can (asked c a i) e (left p) pic sm (allows p)) in
+        let w = leave-step (asked c a i) left e r h (ok .within) (λ p. cut-takes (asked c a i) e (left p) im by (allows p)) in
         let z = can-close (w .s) l in
-        (w .s, z .0, w .met, step-cut (w .s) (z .0) (w .others) (cut-met (asked c a i) left e r (w .s) allows (w .met)) (z .1));
+        (w .s, z .0, w .is-left, (step-cut (w .s) (z .0) (w .others) (left-cut (asked c a i) left e r (w .s) allows (w .is-left)) (z .1), refl));
   }
 
 pub nothing-left-out : NothingLeftOut
@@ -271,7 +308,10 @@ nothing-left-out n chip e = record {
       let p = demand3 n chip e .promise s h .next-step in
       can-happen ok r l c a i e′ es (p .0) (p .1 .by-image) (bytes-next ok e′ t);
   plans = can-plan ok;
-  cuts = can-cut;
+  refusals = λ r h l call x a. ((plan-refused call x a, refl), λ w c. must-refuse r h l call x w a c);
+  cuts = λ r h l l′ cl. (cut-between l′ cl, refl);
+  no-step = λ r h l n. (can-idle r h l n, λ w c. must-idle r h l w n c);
+  no-page = idle-page;
   closes = can-close;
   from-settled = λ r w q a. update-reads ok r w q (plan-asked ok r (for-update w) q a);
 }

@@ -1,4 +1,4 @@
--- Any page of a region can be given any bytes and either status, and no other page changes: regions are not short.
+-- Any page of a region can be given any bytes and either status, and no other page changes.
 -- Assumes nothing.
 use mathlib.Core.List.{List, _++_}
 use mathlib.Core.Logic.{_⊎_, inl, inr, _≢_}

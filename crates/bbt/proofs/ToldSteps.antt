@@ -66,6 +66,26 @@ module _ (b : ChipBlock) (k : Kind) (rest : List Step) where
   unfolding toldCopy
   copy-length P = omega (arith, writes-length P 0)
 
+-- of two copies, one after the other
+module _ (P : ℕ) (b : ChipBlock) (k : Kind) (c : ChipBlock) (j : Kind) where
+  two-length : length (toldCopy P b k (toldCopy P c j [])) ≡ 2 * P + 2
+  two-length = omega (arith, copy-length b k (toldCopy P c j []) P, copy-length c j [] P)
+
+  two-at : (i : ℕ) → nthStep (toldCopy P b k (toldCopy P c j [])) i
+      ≡ cond (leb i P) (copyStep k b i) (cond (ltb (2 * P + 1) i) Past (copyStep j c (i - P - 1)))
+  two-at i = go (leb i P) (ltb (2 * P + 1) i) refl refl
+    where
+      rest : List Step
+      rest = toldCopy P c j []
+
+      go : (t u : Bool) → leb i P ≡ t → ltb (2 * P + 1) i ≡ u
+          → nthStep (toldCopy P b k rest) i ≡ cond t (copyStep k b i) (cond u Past (copyStep j c (i - P - 1)))
+      go true u e f = copy-at b k rest P i (leb-true i P e)
+      go false true e f = nth-past (toldCopy P b k rest) i (omega (arith, two-length, ltb-true (2 * P + 1) i f))
+      go false false e f =
+          copy-after b k rest P i (leb-false i P e)
+          ∙ copy-at c j [] P (i - P - 1) (omega (arith, leb-false i P e, ltb-false (2 * P + 1) i f))
+
 -- ---- a plan's steps by its shape, as the code tells them apart
 abbrev pub countBy : ℕ → Shape → ℕ
 countBy P Empty = 0
@@ -76,7 +96,7 @@ pub count-by : (P : ℕ) (s : Shape) → length (stepsBy P s) ≡ countBy P s
 unfolding stepsBy
 count-by P Empty = refl
 count-by P (One k b) = copy-length b k [] P ∙ add-zero (P + 1)
-count-by P (Both p m) = omega (arith, copy-length p Primary (toldCopy P m Mirror []) P, copy-length m Mirror [] P)
+count-by P (Both p m) = two-length P _ _ _ _
 
 abbrev pub stepBy : ℕ → Shape → ℕ → Step
 stepBy P Empty i = Past
@@ -91,20 +111,7 @@ step-by P (One k b) i = go (ltb P i) refl
     go : (t : Bool) → ltb P i ≡ t → nthStep (toldCopy P b k []) i ≡ cond t Past (copyStep k b i)
     go true e = nth-past (toldCopy P b k []) i (omega (arith, copy-length b k [] P, ltb-true P i e))
     go false e = copy-at b k [] P i (ltb-false P i e)
-step-by P (Both p m) i = go (leb i P) (ltb (2 * P + 1) i) refl refl
-  where
-    rest : List Step
-    rest = toldCopy P m Mirror []
-
-    go : (t u : Bool) → leb i P ≡ t → ltb (2 * P + 1) i ≡ u
-        → nthStep (toldCopy P p Primary rest) i ≡ cond t (copyStep Primary p i) (cond u Past (copyStep Mirror m (i - P - 1)))
-    go true u e f = copy-at p Primary rest P i (leb-true i P e)
-    go false true e f =
-        nth-past (toldCopy P p Primary rest) i
-        (omega (arith, copy-length p Primary rest P, copy-length m Mirror [] P, ltb-true (2 * P + 1) i f))
-    go false false e f =
-        copy-after p Primary rest P i (leb-false i P e)
-        ∙ copy-at m Mirror [] P (i - P - 1) (omega (arith, leb-false i P e, ltb-false (2 * P + 1) i f))
+step-by P (Both p m) i = two-at P _ _ _ _ i
 
 -- ---- what is told are the plan's steps
 writes-told : (chip : LargeChip) (t : Table) (k : Kind) (b : ℕ) (rest : List RuleStep) (n p : ℕ)
@@ -118,10 +125,13 @@ copy-told : (chip : LargeChip) (t : Table) (k : Kind) (b : ℕ) (rest : List Rul
 unfolding toldCopy copySteps
 copy-told chip t k b rest P = ap (λ (es : List Step). Erase (chipBlock chip b) ∷ es) (writes-told chip t k b rest P 0)
 
+two-told : (chip : LargeChip) (t : Table) (k j : Kind) (b c P : ℕ)
+    → toldCopy P (chipBlock chip b) k (toldCopy P (chipBlock chip c) j []) ≡ map (toldStep chip) (copySteps P b k t (copySteps P c j t []))
+two-told chip t k j b c P =
+    ap (toldCopy P (chipBlock chip b) k) (copy-told chip t j c [] P) ∙ copy-told chip t k b (copySteps P c j t []) P
+
 pub tells-steps : TellsSteps
 unfolding stepsBy stepsOf
 tells-steps chip (idle v) = refl
 tells-steps chip (single k b g t) = copy-told chip t k b [] (pagesOf chip)
-tells-steps chip (double p m t) =
-    ap (toldCopy (pagesOf chip) (chipBlock chip p) Primary) (copy-told chip t Mirror m [] (pagesOf chip))
-    ∙ copy-told chip t Primary p (copySteps (pagesOf chip) m Mirror t []) (pagesOf chip)
+tells-steps chip (double p m t) = two-told chip t _ _ _ _ (pagesOf chip)

@@ -1,4 +1,4 @@
--- The update rule keeps every entry that is not 11, and every length; so does AND of lengths.
+-- The update rule keeps every entry that is not 11, and every length; AND keeps every length.
 -- Assumes nothing.
 use mathlib.Core.Bool.{Bool, true, false, cond}
 use mathlib.Core.List.{List}
@@ -26,6 +26,10 @@ pub length-anded : (x y : List ℕ) → length x ≡ length y → length (andByt
 length-anded x y e = ap length (and-zipped x y) ∙ length-zipped bitAnd x y e
 
 -- ---- an entry, a byte, a table
+entry-kept : (a b : ℕ) → a ≢ 3 → updatedEntry a b ≡ a
+unfolding updatedEntry
+entry-kept a b h = rw (ne-eqb a 3 h)
+
 entry-below : (a b : ℕ) → a < 4 → b < 4 → updatedEntry a b < 4
 unfolding updatedEntry
 entry-below a b ha hb = go (eqb a 3)
@@ -33,10 +37,6 @@ entry-below a b ha hb = go (eqb a 3)
     go : (x : Bool) → cond x b a < 4
     go true = hb
     go false = ha
-
-entry-kept : (a b : ℕ) → a ≢ 3 → updatedEntry a b ≡ a
-unfolding updatedEntry
-entry-kept a b h = rw (ne-eqb a 3 h)
 
 -- a byte is a byte
 pub updated-below : (o w : ℕ) → updatedByte o w < 256

@@ -22,6 +22,7 @@ pagePart unreadable = []
 pagePart marked = []
 pagePart (reads k v d) = d
 
+-- a page of a copy of kind k and version v. A marked page is one of none: it has neither signature
 unfoldable pub isPage : Kind → ℕ → Page → Bool
 isPage k v unreadable = false
 isPage k v marked = false

@@ -13,4 +13,5 @@ pub mod Histories
 pub mod PowerCuts
 pub mod CarriedOut
 pub mod Possible
+pub mod Starts
 pub mod Example

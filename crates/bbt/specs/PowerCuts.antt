@@ -26,7 +26,8 @@ InRegion chip c = (chip .blocks - chip .region ≤ c .0) × (c .0 < chip .blocks
 abbrev pub NotGoodKept : LargeChip → Table → Table → Type 0
 NotGoodKept chip t u = (b : ℕ) → b < chip .blocks → entryOf (t .bitmap) b ≢ 3 → entryOf (u .bitmap) b ≡ entryOf (t .bitmap) b
 
--- the table that a finished recovery leaves: the new exactly when the new primary was complete; where old and new are one table, that one
+-- the table that a finished recovery leaves: the new exactly when the new primary was complete; where old and new are one table, that one.
+-- Its planning closed the last update, so none is pending: with an update pending no table is an outcome, and that too is claimed
 abbrev pub Outcome : Last → Table → Type 0
 Outcome (one-table o) t = t ≡ o
 Outcome (pending o n b) t = ⊥
