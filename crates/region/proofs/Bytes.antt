@@ -10,12 +10,25 @@ use lib.Dec.{eqb}
 use lib.ListN.{getD}
 use Rattle.bbt.proofs.Raw.{page-below, rawPage, good-raw, page-byte}
 use Rattle.bbt.specs.Copies.{all, good}
-use Rattle.bbt.specs.Pages.{kindWord, sameKind, seen, pageBytes, pageStatus}
+use Rattle.bbt.specs.Pages.{kindOf, kindOfWord, kindWord, sameKind, seen, pageBytes, pageStatus}
+use Rattle.bits.specs.Bytes.{word}
 use Rattle.bbt.specs.declared.Kind.{Kind}
 use Rattle.bbt.specs.declared.Kind.the-variants.{Primary, Mirror, Neither}
 use Rattle.chip.specs.Large.{pagesOf, regionPages}
 use Rattle.chip.specs.declared.LargeChip.{LargeChip}
 use Rattle.region.specs.Cases.{Fits, isSigned}
+
+-- a page's signature by the image's bytes
+pub page-kind : (image : List ℕ) (i : ℕ) → kindOf (pageBytes image i)
+    ≡ kindOfWord
+    (word (getD image (i * 2112 + 2062) 0) (getD image (i * 2112 + 2062 + 1) 0) (getD image (i * 2112 + 2062 + 2) 0) (getD image (i * 2112 + 2062 + 3) 0))
+unfolding kindOf
+page-kind image i =
+    let two : i * 2112 + 2062 + 1 ≡ i * 2112 + 2063 = omega arith in
+    let three : i * 2112 + 2062 + 2 ≡ i * 2112 + 2064 = omega arith in
+    let four : i * 2112 + 2062 + 3 ≡ i * 2112 + 2065 = omega arith in
+    let byte : (j : ℕ) → j < 2112 → getD (pageBytes image i) j 0 ≡ getD image (i * 2112 + j) 0 = page-byte image i in
+    rw (two, three, four, byte 2062 (omega arith), byte 2063 (omega arith), byte 2064 (omega arith), byte 2065 (omega arith))
 
 -- kinds are told apart by their signatures
 pub signature-same : (k j : Kind) → eqb (kindWord k) (kindWord j) ≡ sameKind k j

@@ -8,7 +8,7 @@ use Rattle.bbt.specs.Copies.{Found, nowhere, only, several}
 use Rattle.bbt.specs.Lent.{onChip, regionLent, statusesRight, judged}
 use Rattle.bbt.specs.Pages.{seen, kindOf, versionOf, sameKind}
 use Rattle.bbt.specs.Pairs.{pairCase}
-use Rattle.bbt.specs.Told.{toldCase}
+use Rattle.bbt.specs.Told.{regionBlock, toldCase}
 use Rattle.bbt.specs.declared.Kind.{Kind}
 use Rattle.bbt.specs.declared.Kind.the-variants.{Neither}
 use Rattle.chip.specs.Large.{chipOf, bitmapBytes, pagesOf}
@@ -37,7 +37,7 @@ pageMatches k v s l = eqb s 0 && (sameKind k (kindOf l) && eqb v (versionOf l))
 
 abbrev pub locatedBy : Found → Located
 locatedBy nowhere = Nowhere
-locatedBy (only b) = Only b
+locatedBy (only b) = Only (regionBlock b)
 locatedBy several = Several
 
 -- what is lent beside the region has its length

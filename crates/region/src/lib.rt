@@ -29,13 +29,8 @@ fn kind_at(image: &[u8], i: usize) -> Kind
     requires { ⌜ (i + 1) * 2112 ≤ length (now image) ⌝ }
     ensures { λ r. ⌜ r ≡ kindOf (pageBytes (now (image .entry)) i) ⌝ }
 {
-    let at = i * LargeChip::PAGE_WITH_OOB;
-    Kind::of_signature(bits::word_of(
-        image[at + 2062],
-        image[at + 2063],
-        image[at + 2064],
-        image[at + 2065],
-    ))
+    let at = i * LargeChip::PAGE_WITH_OOB + LargeChip::SIGNATURE;
+    Kind::of_signature(bits::word_of(image[at], image[at + 1], image[at + 2], image[at + 3]))
 }
 
 // Does page i read well, with the signature of a kind and a version?
@@ -49,17 +44,17 @@ fn page_is(image: &[u8], status: &[u8], i: usize, kind: Kind, version: u8) -> bo
     if kind.signature() != kind_at(image, i).signature() {
         return false;
     }
-    version == image[i * LargeChip::PAGE_WITH_OOB + 2066]
+    version == image[i * LargeChip::PAGE_WITH_OOB + LargeChip::VERSION]
 }
 
 // Is region block b a good copy of a kind: its P pages all read well with that signature and one version?
-fn good_copy(chip: LargeChip, image: &[u8], status: &[u8], kind: Kind, b: u8) -> bool
-    requires { ⌜ Fits chip (length (now image)) (length (now status)) × (b < chip .region) × isSigned kind ⌝ }
-    ensures { λ r. ⌜ r ≡ good (pagesOf chip) (seen chip (now (image .entry)) (now (status .entry))) kind b ⌝ }
+fn good_copy(chip: LargeChip, image: &[u8], status: &[u8], kind: Kind, b: RegionBlock) -> bool
+    requires { ⌜ Fits chip (length (now image)) (length (now status)) × (b .0 < chip .region) × isSigned kind ⌝ }
+    ensures { λ r. ⌜ r ≡ good (pagesOf chip) (seen chip (now (image .entry)) (now (status .entry))) kind (b .0) ⌝ }
 {
     let pages = chip.pages();
-    let first = (b as usize) * pages;
-    let version = image[first * LargeChip::PAGE_WITH_OOB + 2066];
+    let first = (b.0 as usize) * pages;
+    let version = image[first * LargeChip::PAGE_WITH_OOB + LargeChip::VERSION];
     let mut p: usize = 0;
     while p < pages {
         if !page_is(image, status, first + p, kind, version) {
@@ -73,7 +68,7 @@ fn good_copy(chip: LargeChip, image: &[u8], status: &[u8], kind: Kind, b: u8) ->
 // Which blocks hold a good copy of a kind.
 enum Located {
     Nowhere,
-    Only(u8),
+    Only(RegionBlock),
     Several,
 }
 
@@ -87,7 +82,7 @@ fn locate(chip: LargeChip, image: &[u8], status: &[u8], kind: Kind) -> Located
     let mut last: u8 = 0;
     let mut b: u8 = 0;
     while b < region {
-        if good_copy(chip, image, status, kind, b) {
+        if good_copy(chip, image, status, kind, RegionBlock(b)) {
             count += 1;
             last = b;
         }
@@ -97,7 +92,7 @@ fn locate(chip: LargeChip, image: &[u8], status: &[u8], kind: Kind) -> Located
         return Located::Nowhere;
     }
     if count == 1 {
-        return Located::Only(last);
+        return Located::Only(RegionBlock(last));
     }
     Located::Several
 }
@@ -154,7 +149,7 @@ fn same_bitmaps(chip: LargeChip, image: &[u8], x: RegionBlock, y: RegionBlock) -
 pub fn version(chip: LargeChip, image: &[u8], b: RegionBlock) -> u8
     ensures { λ r. ⌜ r ≡ versionOf (pageBytes (now (image .entry)) (b .0 * pagesOf chip)) ⌝ }
 {
-    let at = (b.0 as usize) * chip.pages() * LargeChip::PAGE_WITH_OOB + 2066;
+    let at = (b.0 as usize) * chip.pages() * LargeChip::PAGE_WITH_OOB + LargeChip::VERSION;
     if at < image.len() { image[at] } else { 0 }
 }
 
@@ -188,12 +183,12 @@ fn pair_case(chip: LargeChip, image: &[u8], status: &[u8]) -> PairCase
         Located::Nowhere => match mirror {
             Located::Several => PairCase::Refused(Refusal::SeveralCopies),
             Located::Nowhere => PairCase::Refused(Refusal::NoCopy),
-            Located::Only(m) => PairCase::Alone(Kind::Mirror, RegionBlock(m)),
+            Located::Only(m) => PairCase::Alone(Kind::Mirror, m),
         },
         Located::Only(p) => match mirror {
             Located::Several => PairCase::Refused(Refusal::SeveralCopies),
-            Located::Nowhere => PairCase::Alone(Kind::Primary, RegionBlock(p)),
-            Located::Only(m) => both_case(chip, image, RegionBlock(p), RegionBlock(m)),
+            Located::Nowhere => PairCase::Alone(Kind::Primary, p),
+            Located::Only(m) => both_case(chip, image, p, m),
         },
     }
 }
@@ -265,26 +260,26 @@ pub fn case_of(n: u64, beside: Beside, image: &[u8], status: &[u8]) -> LentCase
 }
 
 // Is region block b readable as bad: its first page reads well, has neither signature, and OOB byte 0 is 0?
-fn reads_bad(chip: LargeChip, image: &[u8], status: &[u8], b: u8) -> bool
-    requires { ⌜ Fits chip (length (now image)) (length (now status)) × (b < chip .region) ⌝ }
-    ensures { λ r. ⌜ r ≡ readsBad (seen chip (now (image .entry)) (now (status .entry))) b ⌝ }
+fn reads_bad(chip: LargeChip, image: &[u8], status: &[u8], b: RegionBlock) -> bool
+    requires { ⌜ Fits chip (length (now image)) (length (now status)) × (b .0 < chip .region) ⌝ }
+    ensures { λ r. ⌜ r ≡ readsBad (seen chip (now (image .entry)) (now (status .entry))) (b .0) ⌝ }
 {
-    let first = (b as usize) * chip.pages();
+    let first = (b.0 as usize) * chip.pages();
     if status[first] != 0 {
         return false;
     }
     if kind_at(image, first).signature() != Kind::Neither.signature() {
         return false;
     }
-    image[first * LargeChip::PAGE_WITH_OOB + 2048] == 0
+    image[first * LargeChip::PAGE_WITH_OOB + LargeChip::PAGE] == 0
 }
 
 // May region block b be a target beside the block to avoid?
-fn is_free(chip: LargeChip, image: &[u8], status: &[u8], avoid: RegionBlock, b: u8) -> bool
-    requires { ⌜ Fits chip (length (now image)) (length (now status)) × (b < chip .region) ⌝ }
-    ensures { λ r. ⌜ r ≡ isFree (seen chip (now (image .entry)) (now (status .entry))) (avoid .0 ∷ []) b ⌝ }
+fn is_free(chip: LargeChip, image: &[u8], status: &[u8], avoid: RegionBlock, b: RegionBlock) -> bool
+    requires { ⌜ Fits chip (length (now image)) (length (now status)) × (b .0 < chip .region) ⌝ }
+    ensures { λ r. ⌜ r ≡ isFree (seen chip (now (image .entry)) (now (status .entry))) (avoid .0 ∷ []) (b .0) ⌝ }
 {
-    if b == avoid.0 {
+    if b.0 == avoid.0 {
         return false;
     }
     !reads_bad(chip, image, status, b)
@@ -306,7 +301,7 @@ fn highest_free(chip: LargeChip, image: &[u8], status: &[u8], avoid: RegionBlock
     let mut last: u8 = 0;
     let mut b: u8 = 0;
     while b < region {
-        if is_free(chip, image, status, avoid, b) {
+        if is_free(chip, image, status, avoid, RegionBlock(b)) {
             found = true;
             last = b;
         }
