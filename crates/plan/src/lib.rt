@@ -5,7 +5,7 @@ ghost use Prim.Native.Nat.{_*_, _<_, _≤_};
 ghost use lib.ListN.{length, replicate, take};
 ghost use Rattle.bbt.specs.Images.{chunk, planImage};
 ghost use Rattle.bbt.specs.Plans.{for-update, for-recovery, nextVersion, holds, updateFrom, otherKind};
-ghost use Rattle.bbt.specs.Stored.{storedParts, storedTable};
+ghost use Rattle.region.specs.Stored.{storedParts, storedTable};
 ghost use Rattle.bbt.specs.Told.{chipBlock};
 ghost use Rattle.bitmap.specs.Made.{newEqualsOld};
 ghost use Rattle.chip.specs.Large.{bitmapBytes, pagesOf};
@@ -74,6 +74,7 @@ fn missing_work(kind: Kind, g: RegionBlock, found: TargetAnswer) -> Work
     ensures { λ r. ⌜ r ≡ missingWork kind g found ⌝ }
 {
     match found {
+        TargetAnswer::Refused(r) => Work::Refused(r),
         TargetAnswer::Missing => Work::Refused(Refusal::NoTarget),
         TargetAnswer::Found(b) => Work::Copy(other_kind(kind), g, b),
     }

@@ -11,8 +11,9 @@ use borrow.Author.Tests.{le-leb}
 use lib.ListN.{length, take, drop, length-append, length-take, length-drop}
 use Rattle.bbt.specs.Pages.{partLength, pageBytes}
 use Rattle.bbt.specs.Pairs.{same}
-use Rattle.bbt.specs.Stored.{storedParts}
-use Rattle.bbt.proofs.Raw.{page-below, page-take, stored-parts-next}
+use Rattle.region.specs.Stored.{storedParts}
+use Rattle.bbt.proofs.Raw.{page-below}
+use Rattle.region.proofs.Stored.{page-take, stored-parts-next}
 use Rattle.bbt.proofs.Searches.{same-append}
 use Rattle.chip.specs.Large.{bitmapBytes, pagesOf, regionPages}
 use Rattle.chip.specs.declared.LargeChip.{LargeChip}

@@ -8,7 +8,9 @@ use native.Mathlib.Nat.{mul-le-mul-right}
 use native.Mathlib.Omega.{arith}
 use lib.Dec.{eqb}
 use lib.ListN.{getD}
-use Rattle.bbt.proofs.Raw.{page-below, rawPage, good-raw, page-byte}
+use Rattle.bbt.proofs.Raw.{page-below, page-byte}
+use Rattle.region.proofs.Stored.{good-raw}
+use Rattle.region.specs.Cases.{pageMatches}
 use Rattle.bbt.specs.Copies.{all, good}
 use Rattle.bbt.specs.Pages.{kindOf, kindOfWord, kindWord, sameKind, seen, pageBytes, pageStatus}
 use Rattle.bits.specs.Bytes.{word}
@@ -66,12 +68,12 @@ first-inside {chip} {l} {s} fits b e hb =
 
 -- a good block by its first page's number: each page matches the version of the first
 abbrev pub matches : List ℕ → List ℕ → Kind → ℕ → ℕ → Bool
-matches image status k first q = rawPage k (getD image (first * 2112 + 2066) 0) (pageStatus status (first + q)) (pageBytes image (first + q))
+matches image status k first q = pageMatches k (getD image (first * 2112 + 2066) 0) (pageStatus status (first + q)) (pageBytes image (first + q))
 
 pub good-by : (chip : LargeChip) (image status : List ℕ) (b : ℕ) (k : Kind) → 0 < pagesOf chip → isSigned k → (first : ℕ) → first ≡ b * pagesOf chip
     → good (pagesOf chip) (seen chip image status) k b ≡ all (pagesOf chip) (matches image status k first)
 good-by chip image status b k pos signed first e =
     subst (λ (f : ℕ). good (pagesOf chip) (seen chip image status) k b ≡ all (pagesOf chip) (matches image status k f)) (sym e)
     (good-raw chip image status b k pos signed
-    ∙ ap (λ (v : ℕ). all (pagesOf chip) (λ q. rawPage k v (pageStatus status (b * pagesOf chip + q)) (pageBytes image (b * pagesOf chip + q))))
+    ∙ ap (λ (v : ℕ). all (pagesOf chip) (λ q. pageMatches k v (pageStatus status (b * pagesOf chip + q)) (pageBytes image (b * pagesOf chip + q))))
     (page-byte image (b * pagesOf chip) 2066 (omega arith)))

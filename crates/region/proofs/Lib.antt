@@ -1,3 +1,4 @@
+pub mod Stored
 pub mod Bytes
 pub mod Locating
 pub mod Bitmaps

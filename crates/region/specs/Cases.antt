@@ -32,7 +32,7 @@ abbrev pub isSigned : Kind → Type 0
 isSigned k = sameKind k Neither ≡ false
 
 -- a page reads well, with the signature of a kind and a version
-abbrev pub pageMatches : Kind → ℕ → ℕ → List ℕ → Bool
+unfoldable pub pageMatches : Kind → ℕ → ℕ → List ℕ → Bool
 pageMatches k v s l = eqb s 0 && (sameKind k (kindOf l) && eqb v (versionOf l))
 
 abbrev pub locatedBy : Found → Located

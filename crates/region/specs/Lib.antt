@@ -1,3 +1,4 @@
+pub mod Stored
 pub mod Cases
 pub mod Parts
 pub mod Tables

@@ -8,14 +8,14 @@ ghost use Rattle.bbt.specs.Lent.{statusesRight};
 ghost use Rattle.bbt.specs.Pages.{kindOf, versionOf, pageBytes, pageStatus, seen, partLength};
 ghost use Rattle.bbt.specs.Pairs.{same, copies, compared, pairCase};
 ghost use Rattle.bbt.specs.Plans.{isFree, target};
-ghost use Rattle.bbt.specs.Stored.{storedParts, storedTable};
+ghost use Rattle.region.specs.Stored.{storedParts, storedTable};
 ghost use Rattle.bbt.specs.Told.{toldCase};
 ghost use Rattle.chip.specs.Large.{bitmapBytes, pagesOf};
 ghost use Rattle.region.specs.Cases.{Fits, isSigned, pageMatches, locatedBy, besideLent, caseOn, lentCase};
 ghost use Rattle.region.specs.Oob.{OobOf, extentOf, oobAnswer};
 ghost use Rattle.region.specs.Parts.{partOf};
 ghost use Rattle.region.specs.Tables.{tableAfter, tableAnswer};
-ghost use Rattle.region.specs.Targets.{toldTarget, lentTarget};
+ghost use Rattle.region.specs.Targets.{toldTarget, targetOn, lentTarget};
 use bbt::Kind;
 use bbt::PairCase;
 use chip::ChipAnswer;
@@ -153,6 +153,9 @@ pub fn version(chip: LargeChip, image: &[u8], b: RegionBlock) -> u8
     if at < image.len() { image[at] } else { 0 }
 }
 
+// The end of d that tells no newer copy.
+const OPPOSITE: i32 = -128;
+
 // The case of two good copies: the sign of d and its end at -128, then the bitmaps.
 fn both_case(chip: LargeChip, image: &[u8], p: RegionBlock, m: RegionBlock) -> PairCase
     requires { ⌜ (chip .region * pagesOf chip * 2112 ≤ length (now image)) × (pagesOf chip ≤ 4) × (p .0 < chip .region) × (m .0 < chip .region) ⌝ }
@@ -165,7 +168,7 @@ fn both_case(chip: LargeChip, image: &[u8], p: RegionBlock, m: RegionBlock) -> P
         }
         return PairCase::Merging(p, m);
     }
-    if d == -128 {
+    if d == OPPOSITE {
         return PairCase::Refused(Refusal::Opposite);
     }
     PairCase::Differing(d, p, m)
@@ -285,10 +288,11 @@ fn is_free(chip: LargeChip, image: &[u8], status: &[u8], avoid: RegionBlock, b: 
     !reads_bad(chip, image, status, b)
 }
 
-// The target of a recovery, or none.
+// The target of a recovery, that there is none, or the refusal of what was lent.
 pub enum TargetAnswer {
     Found(RegionBlock),
     Missing,
+    Refused(Refusal),
 }
 
 // The highest block that is neither the one to avoid nor readable as bad.
@@ -313,21 +317,33 @@ fn highest_free(chip: LargeChip, image: &[u8], status: &[u8], avoid: RegionBlock
     TargetAnswer::Missing
 }
 
-// The target of a recovery beside a good copy; none where N or a length is wrong.
+// The target of a region lent on a judged chip.
+fn target_on(chip: LargeChip, image: &[u8], status: &[u8], avoid: RegionBlock) -> TargetAnswer
+    requires { ⌜ (0 < pagesOf chip) × (pagesOf chip ≤ 4) ⌝ }
+    ensures { λ r. ⌜ r ≡ targetOn chip (now (image .entry)) (now (status .entry)) (avoid .0) ⌝ }
+{
+    if image.len() != chip.region_bytes() {
+        return TargetAnswer::Refused(Refusal::Length);
+    }
+    if status.len() != chip.region_pages() {
+        return TargetAnswer::Refused(Refusal::Length);
+    }
+    if !statuses_right(status) {
+        return TargetAnswer::Refused(Refusal::Range);
+    }
+    if chip.region <= avoid.0 {
+        return TargetAnswer::Refused(Refusal::Range);
+    }
+    highest_free(chip, image, status, avoid)
+}
+
+// The target of a recovery beside a good copy: N is judged, then lengths, then status bytes and the copy's block.
 pub fn find_target(n: u64, image: &[u8], status: &[u8], avoid: RegionBlock) -> TargetAnswer
     ensures { λ r. ⌜ r ≡ lentTarget n (now (image .entry)) (now (status .entry)) (avoid .0) ⌝ }
 {
     match LargeChip::new(n) {
-        ChipAnswer::Refused(_) => TargetAnswer::Missing,
-        ChipAnswer::Chip(chip) => {
-            if image.len() != chip.region_bytes() {
-                return TargetAnswer::Missing;
-            }
-            if status.len() != chip.region_pages() {
-                return TargetAnswer::Missing;
-            }
-            highest_free(chip, image, status, avoid)
-        }
+        ChipAnswer::Refused(r) => TargetAnswer::Refused(r),
+        ChipAnswer::Chip(chip) => target_on(chip, image, status, avoid),
     }
 }
 

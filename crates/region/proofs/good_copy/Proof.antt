@@ -7,7 +7,6 @@ use native.Mathlib.Omega.{arith}
 use borrow.Author.Needs.{needs}
 use borrow.Author.Tests.{not-true, not-false}
 use Rattle.bbt.specs.Copies.{all}
-use Rattle.bbt.proofs.Raw.{rawPage}
 use Rattle.bbt.proofs.Searches.{all-next, all-not}
 use Rattle.chip.specs.Large.{pagesOf}
 use Rattle.region.proofs.Bytes.{page-inside, first-inside, matches, good-by}
@@ -67,7 +66,6 @@ page-is-requires c κs =
     (omega arith, omega arith)
 
 returns : tie.Need-returns Inv-loop μ-loop
-unfolding rawPage
 returns c =
     let a = c .before .before .before .before .before .before .before .before .before .args in
     let pre = c .before .before .before .before .before .before .before .before .before .pre in
@@ -83,7 +81,6 @@ loop-less : tie.Need-loop-less Inv-loop μ-loop
 loop-less c = omega arith
 
 loop-again : tie.Need-loop-again Inv-loop μ-loop
-unfolding rawPage
 loop-again c =
     let p = c .before .before .before .loop .p in
     (omega arith, all-next p _ ∙ ap₂ _&&_ (c .before .before .before .loop .inv .1) (sym (c .before .page-is .ensures) ∙ not-false _ (c .if1 .left)))

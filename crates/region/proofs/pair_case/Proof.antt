@@ -10,11 +10,11 @@ use Rattle.region.specs.declared.Located.{Located}
 use Rattle.region.specs.declared.Located.the-variants.{Nowhere, Only, Several}
 use native.Mathlib.Omega.{arith}
 use Rattle.bbt.proofs.Views.{found-copy}
-use Rattle.bbt.proofs.Raw.{table-raw}
+use Rattle.region.proofs.Stored.{table-raw}
 use Rattle.chip.specs.Large.{pagesOf}
 use mathlib.Core.Path.{_≡_, refl, _∙_, ap, ap₂, sym}
 use Prim.Native.Nat.{ℕ}
-use Rattle.bbt.proofs.Raw.{primary-signed, mirror-signed}
+use Rattle.region.proofs.Stored.{primary-signed, mirror-signed}
 use borrow.Author.Needs.{needs}
 use Rattle.region.proofs.pair_case.Statement.{statement}
 use Rattle.region.proofs.pair_case.Tie as tie

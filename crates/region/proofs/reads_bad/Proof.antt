@@ -10,7 +10,8 @@ use lib.Dec.{eqb}
 use lib.ListN.{getD}
 use Rattle.bbt.specs.Pages.{sameKind, kindOf, kindWord, pageStatus, pageBytes, badPage}
 use Rattle.bbt.specs.declared.Kind.the-variants.{Neither}
-use Rattle.bbt.proofs.Raw.{reads-bad-raw, page-byte}
+use Rattle.bbt.proofs.Raw.{page-byte}
+use Rattle.region.proofs.Stored.{reads-bad-raw}
 use Rattle.chip.specs.Large.{pagesOf}
 use Rattle.region.proofs.Bytes.{first-inside, signature-same}
 use borrow.Author.Needs.{needs}

@@ -9,7 +9,7 @@ use borrow.Author.Needs.{needs}
 use borrow.Author.Tests.{not-true, not-false}
 use lib.ListN.{length}
 use Rattle.bbt.specs.Pairs.{same}
-use Rattle.bbt.specs.Stored.{storedParts}
+use Rattle.region.specs.Stored.{storedParts}
 use Rattle.chip.specs.Large.{pagesOf}
 use Rattle.region.proofs.Bitmaps.{lengths-next, same-next}
 use Rattle.region.proofs.same_bitmaps.Statement.{statement}
