@@ -4,4 +4,5 @@ pub mod Locating
 pub mod Bitmaps
 pub mod Copying
 pub mod Judged
+pub mod Bridge
 pub mod Extents
