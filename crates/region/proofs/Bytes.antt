@@ -8,17 +8,16 @@ use native.Mathlib.Nat.{mul-le-mul-right}
 use native.Mathlib.Omega.{arith}
 use lib.Dec.{eqb}
 use lib.ListN.{getD}
+use Rattle.bits.specs.Bytes.{word}
 use Rattle.bbt.proofs.Raw.{page-below, page-byte}
-use Rattle.region.proofs.Stored.{good-raw}
-use Rattle.region.specs.Cases.{pageMatches}
 use Rattle.bbt.specs.Copies.{all, good}
 use Rattle.bbt.specs.Pages.{kindOf, kindOfWord, kindWord, sameKind, seen, pageBytes, pageStatus}
-use Rattle.bits.specs.Bytes.{word}
 use Rattle.bbt.specs.declared.Kind.{Kind}
 use Rattle.bbt.specs.declared.Kind.the-variants.{Primary, Mirror, Neither}
 use Rattle.chip.specs.Large.{pagesOf, regionPages}
 use Rattle.chip.specs.declared.LargeChip.{LargeChip}
-use Rattle.region.specs.Cases.{Fits, isSigned}
+use Rattle.region.specs.Cases.{Fits, isSigned, pageMatches}
+use Rattle.region.proofs.Stored.{good-raw}
 
 -- a page's signature by the image's bytes
 pub page-kind : (image : List ℕ) (i : ℕ) → kindOf (pageBytes image i)

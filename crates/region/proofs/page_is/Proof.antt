@@ -3,11 +3,9 @@
 use mathlib.Core.Path.{_≡_, _∙_, ap, ap₂, sym}
 use mathlib.Core.Bool.{true, false}
 use native.Mathlib.Omega.{arith}
-use Prim.Native.Nat.{ℕ}
 use borrow.Author.Tests.{eq-eqb, ne-eqb}
 use lib.Dec.{eqb}
-use Rattle.bbt.specs.Pages.{sameKind, kindOf, kindWord, pageBytes, versionOf}
-use Rattle.bbt.specs.declared.Kind.{Kind}
+use Rattle.bbt.specs.Pages.{sameKind, kindOf, kindWord, pageBytes}
 use Rattle.bbt.proofs.Raw.{page-byte}
 use Rattle.region.specs.Cases.{pageMatches}
 use Rattle.region.proofs.Bytes.{signature-same}

@@ -2,8 +2,7 @@
 -- Assumes nothing.
 use Rattle.bbt.specs.Copies.{Found, nowhere, only, several}
 use Rattle.bbt.specs.Pages.{seen}
-use Rattle.bbt.specs.Pairs.{copies, caseOf, pairCase, compared}
-use Rattle.bbt.specs.Told.{toldCase}
+use Rattle.bbt.specs.Pairs.{copies, caseOf, pairCase}
 use Rattle.bbt.specs.declared.Kind.the-variants.{Primary, Mirror}
 use Rattle.region.specs.Cases.{locatedBy}
 use Rattle.region.specs.declared.Located.{Located}
@@ -11,9 +10,7 @@ use Rattle.region.specs.declared.Located.the-variants.{Nowhere, Only, Se
 use native.Mathlib.Omega.{arith}
 use Rattle.bbt.proofs.Views.{found-copy}
 use Rattle.region.proofs.Stored.{table-raw}
-use Rattle.chip.specs.Large.{pagesOf}
-use mathlib.Core.Path.{_≡_, refl, _∙_, ap, ap₂, sym}
-use Prim.Native.Nat.{ℕ}
+use mathlib.Core.Path.{_≡_, refl, _∙_, ap, sym}
 use Rattle.region.proofs.Stored.{primary-signed, mirror-signed}
 use borrow.Author.Needs.{needs}
 use Rattle.region.proofs.pair_case.Statement.{statement}

@@ -1,6 +1,6 @@
 -- `same_bitmaps` meets its contract: the parts before page p are equal or not, as `equal` says.
 -- Assumes nothing.
-use mathlib.Core.Bool.{Bool, and-true, and-false, _&&_}
+use mathlib.Core.Bool.{and-true, and-false, _&&_}
 use mathlib.Core.Logic.{⊎-elim}
 use mathlib.Core.Path.{_≡_, refl, _∙_, ap, ap₂, sym}
 use Prim.Native.Nat.{ℕ, _≤_, _-_, _<_}
