@@ -1,30 +1,21 @@
--- What the rules of a lent image come to on its bytes, as code reads them: a page of a copy by status byte, signature and version, then a
--- good block, a block readable as bad, and the table of a good block. A page that marks its block as bad has neither signature, so it fails
--- as a page of a copy either way.
+-- The chip of N blocks, and a page's bytes in a lent image.
 -- Assumes nothing.
-use mathlib.Core.Bool.{Bool, true, false, _&&_, true≢false, false≢true}
-use mathlib.Core.List.{List, _++_}
-use mathlib.Core.Path.{_≡_, refl, sym, ap, ap₂, _∙_}
-use Prim.Native.Nat.{ℕ, zero, suc, _+_, _*_, _%_, _<_, _≤_}
-use native.Mathlib.Nat.{add-zero, mul-le-mul-right}
-use native.Mathlib.Numerals.{add-one}
+use mathlib.Core.Bool.{Bool, true, false, _&&_}
+use mathlib.Core.List.{List}
+use mathlib.Core.Path.{_≡_, refl, sym, ap, _∙_}
+use Prim.Native.Nat.{ℕ, suc, _+_, _*_, _%_, _<_, _≤_}
+use native.Mathlib.Nat.{mul-le-mul-right}
 use native.Mathlib.Omega.{arith}
-use borrow.Author.Tests.{eqb-true, eq-eqb, leb-true}
+use borrow.Author.Tests.{eqb-true, leb-true}
 use lib.Dec.{eqb, leb}
-use lib.ListN.{length, take, drop, getD, length-take, length-drop}
-use lib.Seq.{getD-take, getD-drop, take-take}
-use Rattle.bits.specs.Bytes.{word}
+use lib.ListN.{length, drop, getD, length-take, length-drop}
+use lib.Seq.{getD-take, getD-drop}
 use Rattle.bits.proofs.Both.{both-left, both-right}
 use Rattle.chip.specs.Large.{isBlocks, chipOf, pagesOf, regionPages, regionBytes}
 use Rattle.chip.specs.declared.ChipAnswer.the-variants.{Chip, Refused}
 use Rattle.chip.specs.declared.LargeChip.{LargeChip}
 use Rattle.chip.specs.declared.Refusal.the-variants.{Range}
-use Rattle.bbt.specs.declared.Kind.{Kind}
-use Rattle.bbt.specs.declared.Kind.the-variants.{Primary, Mirror, Neither}
-use Rattle.bbt.specs.Copies.{pageVersion, pagePart, isPage, isMarked, all, good, readsBad, parts, table}
-use Rattle.bbt.specs.Stored.{storedParts, storedTable}
-use Rattle.bbt.specs.Pages.{sameKind, pageStatus, pageBytes, kindOf, kindOfWord, versionOf, partLength, reads, badPage, pageOf, View, seen}
-use Rattle.bbt.proofs.Searches.{all-at, all-not, all-cong}
+use Rattle.bbt.specs.Pages.{pageBytes}
 
 -- ---- the chip of N blocks
 pub record Valid (n : ℕ) (chip : LargeChip) : Type 0 where
@@ -61,17 +52,6 @@ pub page-byte : (image : List ℕ) (i j : ℕ) → j < 2112 → getD (pageBytes 
 unfolding pageBytes
 page-byte image i j h = getD-take 2112 (drop (i * 2112) image) j 0 h ∙ getD-drop (i * 2112) image j 0
 
-pub page-take : (image : List ℕ) (i m : ℕ) → m ≤ 2112 → take m (pageBytes image i) ≡ take m (drop (i * 2112) image)
-unfolding pageBytes
-page-take image i m h = take-take m 2112 (drop (i * 2112) image) h
-
-pub page-kind : (image : List ℕ) (i : ℕ) → kindOf (pageBytes image i)
-    ≡ kindOfWord
-    (word (getD image (i * 2112 + 2062) 0) (getD image (i * 2112 + 2063) 0) (getD image (i * 2112 + 2064) 0) (getD image (i * 2112 + 2065) 0))
-unfolding kindOf
-page-kind image i =
-    rw (page-byte image i 2062 (omega arith), page-byte image i 2063 (omega arith), page-byte image i 2064 (omega arith), page-byte image i 2065 (omega arith))
-
 -- page p of region block b is one of the region's
 pub page-below : (chip : LargeChip) (b p : ℕ) → b < chip .region → p < pagesOf chip → b * pagesOf chip + p < regionPages chip
 page-below chip b p hb hp =
@@ -81,152 +61,3 @@ page-below chip b p hb hp =
 pub page-length : (chip : LargeChip) (image : List ℕ) (i : ℕ) → length image ≡ regionBytes chip → i < regionPages chip → length (pageBytes image i) ≡ 2112
 unfolding pageBytes
 page-length chip image i e h = simp (length-take, length-drop) (omega arith)
-
--- ---- a page of a copy
--- of kind k and version v, by its status byte and its bytes
-unfoldable pub rawPage : Kind → ℕ → ℕ → List ℕ → Bool
-rawPage k v s l = eqb s 0 && (sameKind k (kindOf l) && eqb v (versionOf l))
-
--- the two kinds of a copy
-pub primary-signed : sameKind Primary Neither ≡ false
-unfolding sameKind
-primary-signed = refl
-
-pub mirror-signed : sameKind Mirror Neither ≡ false
-unfolding sameKind
-mirror-signed = refl
-
-neither-is : (k : Kind) → sameKind k Neither ≡ true → k ≡ Neither
-unfolding sameKind
-neither-is Primary e = absurd (false≢true e)
-neither-is Mirror e = absurd (false≢true e)
-neither-is Neither e = refl
-
-bad-neither : (p s : ℕ) (l : List ℕ) → badPage p s l ≡ true → kindOf l ≡ Neither
-unfolding badPage
-bad-neither p s l h =
-    let neither : Bool = sameKind (kindOf l) Neither in
-    let zeroed : Bool = eqb (getD l 2048 0) 0 in
-    neither-is (kindOf l)
-    (both-left neither zeroed (both-right (eqb s 0) (neither && zeroed) (both-right (eqb p 0) (eqb s 0 && (neither && zeroed)) h)))
-
-pub page-raw : (chip : LargeChip) (k : Kind) (v p s : ℕ) (l : List ℕ) → sameKind k Neither ≡ false → isPage k v (pageOf chip p s l) ≡ rawPage k v s l
-unfolding pageOf isPage rawPage
-page-raw chip k v p s l signed = go (badPage p s l) refl (eqb s 0) refl
-  where
-    go : (x : Bool) → badPage p s l ≡ x → (y : Bool) → eqb s 0 ≡ y → isPage k v (pageOf chip p s l) ≡ rawPage k v s l
-    go true a true b = rw (a, b, bad-neither p s l a, signed)
-    go true a false b = rw (a, b)
-    go false a true b = rw (a, b)
-    go false a false b = rw (a, b)
-
--- a page that passes reads with what its bytes say
-page-reads : (chip : LargeChip) (k : Kind) (v p s : ℕ) (l : List ℕ) → isPage k v (pageOf chip p s l) ≡ true
-    → pageOf chip p s l ≡ reads (kindOf l) (versionOf l) (take (partLength chip p) l)
-unfolding pageOf isPage
-page-reads chip k v p s l h = go (badPage p s l) refl (eqb s 0) refl
-  where
-    go : (x : Bool) → badPage p s l ≡ x → (y : Bool) → eqb s 0 ≡ y
-        → pageOf chip p s l ≡ reads (kindOf l) (versionOf l) (take (partLength chip p) l)
-    go true a y b = absurd (false≢true (sym (rw a) ∙ h))
-    go false a true b = rw (a, b)
-    go false a false b = absurd (false≢true (sym (rw (a, b)) ∙ h))
-
--- one that fails by its own version fails by any
-raw-any : (k : Kind) (v s : ℕ) (l : List ℕ) → rawPage k (versionOf l) s l ≡ false → rawPage k v s l ≡ false
-unfolding rawPage
-raw-any k v s l h = go (eqb s 0) refl (sameKind k (kindOf l)) refl
-  where
-    go : (x : Bool) → eqb s 0 ≡ x → (y : Bool) → sameKind k (kindOf l) ≡ y → rawPage k v s l ≡ false
-    go false a y b = rw a
-    go true a false b = rw (a, b)
-    go true a true b = absurd (true≢false (sym (rw (a, b, eq-eqb (versionOf l) (versionOf l) refl)) ∙ h))
-
-marked-raw : (chip : LargeChip) (s : ℕ) (l : List ℕ) → isMarked (pageOf chip 0 s l) ≡ badPage 0 s l
-unfolding pageOf isMarked
-marked-raw chip s l = go (badPage 0 s l) refl (eqb s 0) refl
-  where
-    go : (x : Bool) → badPage 0 s l ≡ x → (y : Bool) → eqb s 0 ≡ y → isMarked (pageOf chip 0 s l) ≡ badPage 0 s l
-    go true a y b = rw a
-    go false a true b = rw (a, b)
-    go false a false b = rw (a, b)
-
-pub stored-parts-next : (chip : LargeChip) (image : List ℕ) (b n : ℕ)
-    → storedParts chip image b (n + 1) ≡ storedParts chip image b n ++ take (partLength chip n) (pageBytes image (b * pagesOf chip + n))
-unfolding storedParts
-stored-parts-next chip image b n = rw add-one
-
-module _ (chip : LargeChip) (image status : List ℕ) (b : ℕ) where
-  -- a block's first page
-  first-seen : seen chip image status b 0 ≡ pageOf chip 0 (pageStatus status (b * pagesOf chip)) (pageBytes image (b * pagesOf chip))
-  unfolding seen
-  first-seen = ap (λ (i : ℕ). pageOf chip 0 (pageStatus status i) (pageBytes image i)) (add-zero (b * pagesOf chip))
-
-  pub reads-bad-raw : readsBad (seen chip image status) b ≡ badPage 0 (pageStatus status (b * pagesOf chip)) (pageBytes image (b * pagesOf chip))
-  unfolding readsBad
-  reads-bad-raw = ap isMarked first-seen ∙ marked-raw chip (pageStatus status (b * pagesOf chip)) (pageBytes image (b * pagesOf chip))
-
-  -- its version, where it passes
-  first-version : (k : Kind) (v : ℕ) → isPage k v (seen chip image status b 0) ≡ true
-      → pageVersion (seen chip image status b 0) ≡ versionOf (pageBytes image (b * pagesOf chip))
-  unfolding pageVersion
-  first-version k v h =
-      let s : ℕ = pageStatus status (b * pagesOf chip) in
-      let l : List ℕ = pageBytes image (b * pagesOf chip) in
-      ap pageVersion (first-seen ∙ page-reads chip k v 0 s l (ap (isPage k v) (sym first-seen) ∙ h))
-
-  module _ (k : Kind) (pos : 0 < pagesOf chip) where
-    -- a good block: each page reads well, has the signature, and the first page's version
-    pub good-raw : sameKind k Neither ≡ false → good (pagesOf chip) (seen chip image status) k b
-        ≡ all (pagesOf chip)
-        (λ p. rawPage k (versionOf (pageBytes image (b * pagesOf chip))) (pageStatus status (b * pagesOf chip + p)) (pageBytes image (b * pagesOf chip + p)))
-    unfolding good seen
-    good-raw signed = go (raw v₀ 0) refl
-      where
-        R : View
-        R = seen chip image status
-
-        v₀ : ℕ
-        v₀ = versionOf (pageBytes image (b * pagesOf chip))
-
-        raw : ℕ → ℕ → Bool
-        raw v p = rawPage k v (pageStatus status (b * pagesOf chip + p)) (pageBytes image (b * pagesOf chip + p))
-
-        each : (v p : ℕ) → isPage k v (R b p) ≡ raw v p
-        each v p = page-raw chip k v p (pageStatus status (b * pagesOf chip + p)) (pageBytes image (b * pagesOf chip + p)) signed
-
-        go : (t : Bool) → raw v₀ 0 ≡ t → all (pagesOf chip) (λ p. isPage k (pageVersion (R b 0)) (R b p)) ≡ all (pagesOf chip) (λ p. raw v₀ p)
-        go true a =
-            all-cong (pagesOf chip) (λ p. isPage k (pageVersion (R b 0)) (R b p)) (λ p. raw v₀ p)
-            (λ p h. ap (λ (v : ℕ). isPage k v (R b p)) (first-version k v₀ (each v₀ 0 ∙ a)) ∙ each v₀ p)
-        go false a =
-            all-not (pagesOf chip) (λ p. isPage k (pageVersion (R b 0)) (R b p)) 0 pos (each (pageVersion (R b 0)) 0 ∙ fails (pageVersion (R b 0)))
-            ∙ sym (all-not (pagesOf chip) (λ p. raw v₀ p) 0 pos a)
-          where
-            i : b * pagesOf chip + 0 ≡ b * pagesOf chip
-            i = add-zero (b * pagesOf chip)
-
-            fails : (v : ℕ) → raw v 0 ≡ false
-            fails v = raw-any k v (pageStatus status (b * pagesOf chip + 0)) (pageBytes image (b * pagesOf chip + 0)) (rw i (rw i at a))
-
-    -- the table of a good block
-    pub table-raw : good (pagesOf chip) (seen chip image status) k b ≡ true → table (pagesOf chip) (seen chip image status) b
-        ≡ storedTable chip image b
-    unfolding table good seen pagePart parts storedParts
-    table-raw h =
-        let v : pageVersion (R b 0) ≡ versionOf (pageBytes image (b * pagesOf chip)) = first-version k (pageVersion (R b 0)) (each 0 pos) in
-        let l : parts (pagesOf chip) (R b) ≡ storedParts chip image b (pagesOf chip) = join (pagesOf chip) each in
-        λ i. record { version = v i; bitmap = l i }
-      where
-        R : View
-        R = seen chip image status
-
-        each : (p : ℕ) → p < pagesOf chip → isPage k (pageVersion (R b 0)) (R b p) ≡ true
-        each p = all-at (pagesOf chip) (λ p. isPage k (pageVersion (R b 0)) (R b p)) h p
-
-        part : (v p : ℕ) → isPage k v (R b p) ≡ true → pagePart (R b p) ≡ take (partLength chip p) (pageBytes image (b * pagesOf chip + p))
-        part v p a = ap pagePart (page-reads chip k v p (pageStatus status (b * pagesOf chip + p)) (pageBytes image (b * pagesOf chip + p)) a)
-
-        join : (n : ℕ) → ((p : ℕ) → p < n → isPage k (pageVersion (R b 0)) (R b p) ≡ true) → parts n (R b) ≡ storedParts chip image b n
-        join zero f = refl
-        join (suc n) f = ap₂ _++_ (join n (λ p l. f p (omega arith))) (part (pageVersion (R b 0)) n (f n (omega arith)))

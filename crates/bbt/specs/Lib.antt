@@ -1,7 +1,6 @@
 pub mod Entries
 pub mod Pages
 pub mod Copies
-pub mod Stored
 pub mod Pairs
 pub mod Plans
 pub mod Images

@@ -12,6 +12,9 @@ use chip::ChipAnswer;
 use chip::LargeChip;
 use chip::Refusal;
 
+// Bitmaps are compared this many bytes at a time.
+const AT_A_TIME: usize = 256;
+
 // What making the first bitmap answers.
 pub enum BitmapAnswer {
     Made,
@@ -71,7 +74,7 @@ fn mark_entry(mark: u8) -> u8
     if mark == 0 { 0 } else { 3 }
 }
 
-// Are two bitmaps equal? Judged 256 bytes at a time.
+// Are two bitmaps equal?
 pub fn same_bytes(a: &[u8], b: &[u8]) -> bool
     ensures { λ r. ⌜ r ≡ same (now (a .entry)) (now (b .entry)) ⌝ }
 {
@@ -80,8 +83,8 @@ pub fn same_bytes(a: &[u8], b: &[u8]) -> bool
         return false;
     }
     let mut compared: usize = 0;
-    while n - compared >= 256 {
-        let end = compared + 256;
+    while n - compared >= AT_A_TIME {
+        let end = compared + AT_A_TIME;
         if differs(&a[compared..end], &b[compared..end]) != 0 {
             return false;
         }
@@ -104,7 +107,7 @@ fn differs(a: &[u8], b: &[u8]) -> u8
     d
 }
 
-// Does the update rule keep an old bitmap as it is? Judged 256 bytes at a time.
+// Does the update rule keep an old bitmap as it is?
 pub fn new_equals_old(old: &[u8], wanted: &[u8]) -> bool
     ensures { λ r. ⌜ r ≡ newEqualsOld (now (old .entry)) (now (wanted .entry)) ⌝ }
 {
@@ -113,8 +116,8 @@ pub fn new_equals_old(old: &[u8], wanted: &[u8]) -> bool
         return false;
     }
     let mut kept: usize = 0;
-    while n - kept >= 256 {
-        let end = kept + 256;
+    while n - kept >= AT_A_TIME {
+        let end = kept + AT_A_TIME;
         if changes(&old[kept..end], &wanted[kept..end]) != 0 {
             return false;
         }

@@ -6,3 +6,4 @@ pub mod Paging
 pub mod Parts
 pub mod Imaging
 pub mod Bridge
+pub mod Dependence

@@ -7,12 +7,12 @@ use Prim.Native.Nat.{ℕ, suc, _+_, _*_, _<_, _≤_}
 use native.Mathlib.Omega.{arith}
 use lib.ListN.{length, take, length-take}
 use lib.Seq.{take-add}
-use Rattle.bbt.proofs.Raw.{stored-parts-next}
+use Rattle.region.proofs.Stored.{stored-parts-next}
 use Rattle.bbt.proofs.Searches.{same-append}
 use Rattle.bbt.specs.Entries.{updatedByte, updatedBytes}
 use Rattle.bbt.specs.Images.{chunk}
 use Rattle.bbt.specs.Pairs.{same}
-use Rattle.bbt.specs.Stored.{storedParts}
+use Rattle.region.specs.Stored.{storedParts}
 use Rattle.bitmap.specs.Made.{newEqualsOld}
 use Rattle.chip.specs.Large.{bitmapBytes, pagesOf}
 use Rattle.chip.specs.declared.LargeChip.{LargeChip}

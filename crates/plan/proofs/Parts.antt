@@ -14,7 +14,7 @@ use Rattle.bbt.proofs.Parting.{chunk-before, chunk-next, chunk-past, chunk-upda
 use Rattle.bbt.specs.Entries.{updatedBytes, andBytes}
 use Rattle.bbt.specs.Images.{chunk}
 use Rattle.bbt.specs.Pages.{pageBytes, partLength}
-use Rattle.bbt.specs.Stored.{storedParts}
+use Rattle.region.specs.Stored.{storedParts}
 use Rattle.bitmap.specs.Made.{updatedInto, andedInto}
 use Rattle.bits.proofs.Filling.{copied-same}
 use Rattle.bits.specs.Bytes.{copied}

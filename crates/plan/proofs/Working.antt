@@ -5,13 +5,13 @@ use mathlib.Core.Option.{Option, none, some}
 use mathlib.Core.Path.{_≡_, refl, _∙_, ap, ap₂, sym, subst}
 use Prim.Native.Nat.{ℕ, _<_}
 use native.Mathlib.Omega.{arith}
-use borrow.Author.Tests.{eqb-true}
+use borrow.Author.Tests.{eqb-true, lt-ltb}
 use lib.IntN.{ℤ, pos, negsuc}
 use lib.ListN.{length}
 use Rattle.bbt.specs.Copies.{Table}
 use Rattle.bbt.specs.Pages.{seen}
 use Rattle.bbt.specs.Plans.{plan, idle, double, holds, readCase, reading, updateFrom, update, target, otherKind, recoverTo, anded, recoverNewer, recoverCase, recovery, Call, for-update, for-recovery, planByRules}
-use Rattle.bbt.specs.Stored.{storedTable}
+use Rattle.region.specs.Stored.{storedTable}
 use Rattle.bbt.specs.declared.Kind.{Kind}
 use Rattle.bbt.specs.declared.PairCase.{PairCase}
 use Rattle.bbt.specs.declared.PairCase.the-variants.{Refused as NoPair, Alone, Settled, Merging, Differing}
@@ -21,11 +21,11 @@ use Rattle.chip.specs.declared.RegionBlock.{RegionBlock}
 use Rattle.plan.specs.Works.{updateWork, missingWork, newerWork, recoveryWork, workAnswer, Placed, Sourced}
 use Rattle.plan.specs.declared.Work.{Work}
 use Rattle.region.proofs.Judged.{untold, Known, known-image, known-copies, known-table}
-use Rattle.region.specs.Targets.{toldTarget, lentTarget}
+use Rattle.region.specs.Targets.{toldTarget, targetOn, lentTarget}
 use Rattle.region.specs.declared.Beside.{Beside}
 use Rattle.region.specs.declared.Beside.the-variants.{Nothing, Bitmap}
 use Rattle.region.specs.declared.TargetAnswer.{TargetAnswer}
-use Rattle.region.specs.declared.TargetAnswer.the-variants.{Found, Missing}
+use Rattle.region.specs.declared.TargetAnswer.the-variants.{Found, Missing, Refused}
 
 -- what a call lends beside the region, and what it comes to
 abbrev pub besideOf : Call → Beside
@@ -57,10 +57,10 @@ module _ (chip : LargeChip) (image w : List ℕ) where
 
 module _ {n : ℕ} {chip : LargeChip} {beside : Beside} {image status : List ℕ} where
   -- the target that is found on a judged region
-  target-known : {c : PairCase} → Known n chip beside image status c → (g : ℕ)
+  target-known : {c : PairCase} → Known n chip beside image status c → (g : ℕ) → g < chip .region
       → lentTarget n image status g ≡ toldTarget (target chip (seen chip image status) (g ∷ []))
-  unfolding lentTarget
-  target-known k g = rw (k .the-chip, k .region-right) refl
+  unfolding lentTarget targetOn
+  target-known k g h = rw (k .the-chip, k .region-right, k .statuses-right, lt-ltb g (chip .region) h) refl
 
   update-plans : (w : List ℕ) (c : PairCase) → Known n chip beside image status c
       → workAnswer chip image w (updateWork c) ≡ updateFrom w (readCase (pagesOf chip) (seen chip image status) (untold c))
@@ -76,7 +76,7 @@ module _ {n : ℕ} {chip : LargeChip} {beside : Beside} {image status : List ℕ
   unfolding workAnswer recoverCase
   recovery-plans w (NoPair r) k = refl
   recovery-plans w (Alone j g) k =
-      ap (λ (t : TargetAnswer). workAnswer chip image w (missingWork j g t)) (target-known k (g .0))
+      ap (λ (t : TargetAnswer). workAnswer chip image w (missingWork j g t)) (target-known k (g .0) (known-copies k .inside))
       ∙ missing-plans chip image w j g (target chip (seen chip image status) (g .0 ∷ []))
       ∙ ap (λ (t : Table). recoverTo (otherKind j) (g .0) t (target chip (seen chip image status) (g .0 ∷ []))) (sym (known-table k (known-copies k)))
   recovery-plans w (Settled p m) k = ap (λ (t : Table). plan (idle (t .version))) (sym (known-table k (known-copies k .0)))
@@ -96,6 +96,7 @@ module _ {n : ℕ} {chip : LargeChip} {image status : List ℕ} {c : PairCase} w
 
 -- ---- where the bitmap comes from
 missing-placed : (chip : LargeChip) (size : ℕ) (k : Kind) (g : RegionBlock) (t : TargetAnswer) → g .0 < chip .region → Placed chip size (missingWork k g t)
+missing-placed chip size k g (Refused r) h = tt
 missing-placed chip size k g Missing h = tt
 missing-placed chip size k g (Found b) h = h
 

@@ -2,3 +2,4 @@ pub mod Works
 pub mod Answers
 pub mod PageImages
 pub mod Bridge
+pub mod Dependence

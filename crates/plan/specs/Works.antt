@@ -5,7 +5,7 @@ use Prim.Native.Nat.{ℕ, _*_, _<_, _≤_}
 use lib.IntN.{ℤ, pos, negsuc}
 use Rattle.bbt.specs.Entries.{updatedBytes, andBytes}
 use Rattle.bbt.specs.Plans.{Answer, refuse, plan, idle, single, double, holds, updateFrom, otherKind, anded}
-use Rattle.bbt.specs.Stored.{storedTable}
+use Rattle.region.specs.Stored.{storedTable}
 use Rattle.bbt.specs.declared.Kind.{Kind}
 use Rattle.bbt.specs.declared.Kind.the-variants.{Primary, Mirror}
 use Rattle.bbt.specs.declared.PairCase.{PairCase}
@@ -18,7 +18,7 @@ use Rattle.plan.specs.declared.Work.{Work}
 use Rattle.plan.specs.declared.Work.the-variants.{Refused, Keep, Update, Copy, Merge}
 use Rattle.region.specs.Targets.{lentTarget}
 use Rattle.region.specs.declared.TargetAnswer.{TargetAnswer}
-use Rattle.region.specs.declared.TargetAnswer.the-variants.{Found, Missing}
+use Rattle.region.specs.declared.TargetAnswer.the-variants.{Found, Missing, Refused as NoSearch}
 
 -- ---- by the pair's case
 -- an update
@@ -29,8 +29,9 @@ updateWork (Settled p m) = Update p m
 updateWork (Merging p m) = Refused NotSettled
 updateWork (Differing d p m) = Refused NotSettled
 
--- a recovery: only one kind good, by the target that was found
+-- a recovery: only one kind good, by the target that was found; the refusal of what was lent is passed on
 abbrev pub missingWork : Kind → RegionBlock → TargetAnswer → Work
+missingWork k g (NoSearch r) = Refused r
 missingWork k g Missing = Refused NoTarget
 missingWork k g (Found b) = Copy (otherKind k) g b
 

@@ -5,7 +5,7 @@ ghost use Prim.Native.Nat.{_*_, _<_, _≤_};
 ghost use lib.ListN.{length, replicate, take};
 ghost use Rattle.bbt.specs.Images.{chunk, planImage};
 ghost use Rattle.bbt.specs.Plans.{for-update, for-recovery, nextVersion, holds, updateFrom, otherKind};
-ghost use Rattle.bbt.specs.Stored.{storedParts, storedTable};
+ghost use Rattle.region.specs.Stored.{storedParts, storedTable};
 ghost use Rattle.bbt.specs.Told.{chipBlock};
 ghost use Rattle.bitmap.specs.Made.{newEqualsOld};
 ghost use Rattle.chip.specs.Large.{bitmapBytes, pagesOf};
@@ -74,6 +74,7 @@ fn missing_work(kind: Kind, g: RegionBlock, found: TargetAnswer) -> Work
     ensures { λ r. ⌜ r ≡ missingWork kind g found ⌝ }
 {
     match found {
+        TargetAnswer::Refused(r) => Work::Refused(r),
         TargetAnswer::Missing => Work::Refused(Refusal::NoTarget),
         TargetAnswer::Found(b) => Work::Copy(other_kind(kind), g, b),
     }
@@ -104,11 +105,14 @@ fn recovery_work(n: u64, image: &[u8], status: &[u8], c: PairCase) -> Work
     }
 }
 
+// A version is below this.
+const VERSIONS: u16 = 256;
+
 // Version plus 1 modulo 256.
 fn next_version(v: u8) -> u8
     ensures { λ r. ⌜ r ≡ nextVersion v ⌝ }
 {
-    (((v as u16) + 1) % 256) as u8
+    (((v as u16) + 1) % VERSIONS) as u8
 }
 
 // A plan on a chip.
@@ -248,7 +252,10 @@ pub fn page_image(part: &[u8], kind: Kind, version: u8, page: &mut [u8])
     bits::copy(part, &mut page[0..n]);
     let s = bits::bytes_of(kind.signature());
     let tail = [s[0], s[1], s[2], s[3], version];
-    bits::copy(&tail, &mut page[2062..2067]);
+    bits::copy(
+        &tail,
+        &mut page[LargeChip::SIGNATURE..LargeChip::VERSION + 1],
+    );
 }
 
 // The new table's bytes of page p, put first into `out`; how many there are.
@@ -314,7 +321,7 @@ fn page_of(
                 Step::Erase(_) => ImageAnswer::Refused(Refusal::Range),
                 Step::Past => ImageAnswer::Refused(Refusal::Range),
                 Step::Write(_, p, kind) => {
-                    let mut part = [0u8; 2048];
+                    let mut part = [0u8; LargeChip::PAGE];
                     let n = new_part(chip, image, wanted, work, p, &mut part);
                     page_image(&part[0..n], kind, version, page);
                     ImageAnswer::Made

@@ -1,6 +1,6 @@
 -- The parts of two blocks' bitmaps, page by page.
 -- Assumes nothing.
-use mathlib.Core.Bool.{Bool, true, _&&_}
+use mathlib.Core.Bool.{Bool, _&&_}
 use mathlib.Core.List.{List}
 use mathlib.Core.Path.{_≡_, _∙_, ap, ap₂, sym}
 use Prim.Native.Nat.{ℕ, zero, suc, _+_, _*_, _<_, _≤_, min}
@@ -8,11 +8,12 @@ use native.Mathlib.Numerals.{add-one}
 use native.Mathlib.Nat.{mul-le-mul-right}
 use native.Mathlib.Omega.{arith}
 use borrow.Author.Tests.{le-leb}
-use lib.ListN.{length, take, drop, length-append, length-take, length-drop}
+use lib.ListN.{length, take, length-append, length-take, length-drop}
 use Rattle.bbt.specs.Pages.{partLength, pageBytes}
 use Rattle.bbt.specs.Pairs.{same}
-use Rattle.bbt.specs.Stored.{storedParts}
-use Rattle.bbt.proofs.Raw.{page-below, page-take, stored-parts-next}
+use Rattle.region.specs.Stored.{storedParts}
+use Rattle.bbt.proofs.Raw.{page-below}
+use Rattle.region.proofs.Stored.{page-take, stored-parts-next}
 use Rattle.bbt.proofs.Searches.{same-append}
 use Rattle.chip.specs.Large.{bitmapBytes, pagesOf, regionPages}
 use Rattle.chip.specs.declared.LargeChip.{LargeChip}

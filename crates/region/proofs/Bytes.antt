@@ -8,14 +8,28 @@ use native.Mathlib.Nat.{mul-le-mul-right}
 use native.Mathlib.Omega.{arith}
 use lib.Dec.{eqb}
 use lib.ListN.{getD}
-use Rattle.bbt.proofs.Raw.{page-below, rawPage, good-raw, page-byte}
+use Rattle.bits.specs.Bytes.{word}
+use Rattle.bbt.proofs.Raw.{page-below, page-byte}
 use Rattle.bbt.specs.Copies.{all, good}
-use Rattle.bbt.specs.Pages.{kindWord, sameKind, seen, pageBytes, pageStatus}
+use Rattle.bbt.specs.Pages.{kindOf, kindOfWord, kindWord, sameKind, seen, pageBytes, pageStatus}
 use Rattle.bbt.specs.declared.Kind.{Kind}
 use Rattle.bbt.specs.declared.Kind.the-variants.{Primary, Mirror, Neither}
 use Rattle.chip.specs.Large.{pagesOf, regionPages}
 use Rattle.chip.specs.declared.LargeChip.{LargeChip}
-use Rattle.region.specs.Cases.{Fits, isSigned}
+use Rattle.region.specs.Cases.{Fits, isSigned, pageMatches}
+use Rattle.region.proofs.Stored.{good-raw}
+
+-- a page's signature by the image's bytes
+pub page-kind : (image : List ℕ) (i : ℕ) → kindOf (pageBytes image i)
+    ≡ kindOfWord
+    (word (getD image (i * 2112 + 2062) 0) (getD image (i * 2112 + 2062 + 1) 0) (getD image (i * 2112 + 2062 + 2) 0) (getD image (i * 2112 + 2062 + 3) 0))
+unfolding kindOf
+page-kind image i =
+    let two : i * 2112 + 2062 + 1 ≡ i * 2112 + 2063 = omega arith in
+    let three : i * 2112 + 2062 + 2 ≡ i * 2112 + 2064 = omega arith in
+    let four : i * 2112 + 2062 + 3 ≡ i * 2112 + 2065 = omega arith in
+    let byte : (j : ℕ) → j < 2112 → getD (pageBytes image i) j 0 ≡ getD image (i * 2112 + j) 0 = page-byte image i in
+    rw (two, three, four, byte 2062 (omega arith), byte 2063 (omega arith), byte 2064 (omega arith), byte 2065 (omega arith))
 
 -- kinds are told apart by their signatures
 pub signature-same : (k j : Kind) → eqb (kindWord k) (kindWord j) ≡ sameKind k j
@@ -53,12 +67,12 @@ first-inside {chip} {l} {s} fits b e hb =
 
 -- a good block by its first page's number: each page matches the version of the first
 abbrev pub matches : List ℕ → List ℕ → Kind → ℕ → ℕ → Bool
-matches image status k first q = rawPage k (getD image (first * 2112 + 2066) 0) (pageStatus status (first + q)) (pageBytes image (first + q))
+matches image status k first q = pageMatches k (getD image (first * 2112 + 2066) 0) (pageStatus status (first + q)) (pageBytes image (first + q))
 
 pub good-by : (chip : LargeChip) (image status : List ℕ) (b : ℕ) (k : Kind) → 0 < pagesOf chip → isSigned k → (first : ℕ) → first ≡ b * pagesOf chip
     → good (pagesOf chip) (seen chip image status) k b ≡ all (pagesOf chip) (matches image status k first)
 good-by chip image status b k pos signed first e =
     subst (λ (f : ℕ). good (pagesOf chip) (seen chip image status) k b ≡ all (pagesOf chip) (matches image status k f)) (sym e)
     (good-raw chip image status b k pos signed
-    ∙ ap (λ (v : ℕ). all (pagesOf chip) (λ q. rawPage k v (pageStatus status (b * pagesOf chip + q)) (pageBytes image (b * pagesOf chip + q))))
+    ∙ ap (λ (v : ℕ). all (pagesOf chip) (λ q. pageMatches k v (pageStatus status (b * pagesOf chip + q)) (pageBytes image (b * pagesOf chip + q))))
     (page-byte image (b * pagesOf chip) 2066 (omega arith)))

@@ -10,8 +10,8 @@ use lib.Seq.{take-at}
 use Rattle.bits.specs.Bytes.{copied}
 use Rattle.bits.proofs.Filling.{copied-same}
 use Rattle.bbt.specs.Pages.{partLength}
-use Rattle.bbt.specs.Stored.{storedParts}
-use Rattle.bbt.proofs.Raw.{stored-parts-next}
+use Rattle.region.specs.Stored.{storedParts}
+use Rattle.region.proofs.Stored.{stored-parts-next}
 use Rattle.chip.specs.Large.{pagesOf}
 use Rattle.chip.specs.declared.LargeChip.{LargeChip}
 use Rattle.region.specs.Parts.{partOf}

@@ -1,14 +1,27 @@
--- The extent of N tells whether N is refused: P is 1 at least.
+-- The extent of N tells whether N is refused: P is 1 at least. Bytes that are given lie in the image, so there are 64, and a refusal's number
+-- is not 0.
 -- Assumes nothing.
-use mathlib.Core.Bool.{Bool, true, false}
-use mathlib.Core.Path.{_≡_, refl}
-use Prim.Native.Nat.{ℕ}
+use mathlib.Core.Bool.{Bool, true, false, cond, _&&_}
+use mathlib.Core.List.{List}
+use mathlib.Core.Path.{_≡_, refl, ap}
+use Prim.Native.Nat.{ℕ, suc, _+_, _*_, _<_, _≤_}
+use native.Mathlib.Nat.{mul-le-mul-right}
 use native.Mathlib.Omega.{arith}
-use borrow.Author.Tests.{ne-eqb}
+use borrow.Author.Tests.{eqb-true, ltb-true, ne-eqb}
+use lib.Dec.{eqb, ltb}
+use lib.ListN.{length, length-take, length-drop}
+use Rattle.bits.proofs.Both.{both-left, both-right}
 use Rattle.bbt.proofs.Raw.{pages-pos}
+use Rattle.bbt.specs.Lent.{judged}
 use Rattle.chip.specs.Large.{isBlocks, chipOf, pagesOf}
+use Rattle.chip.specs.Refusals.{refusalNumber}
 use Rattle.chip.specs.declared.LargeChip.{LargeChip}
-use Rattle.region.specs.Oob.{extentOf, oobAnswer, JudgesN}
+use Rattle.chip.specs.declared.Refusal.{Refusal}
+use Rattle.chip.specs.declared.Refusal.the-variants.{Length, Range, BadBlock, Tag, Magic, Unrepairable, NoCopy, SeveralCopies, Opposite, NotSettled, NoTarget}
+use Rattle.region.specs.declared.Extent.{Extent}
+use Rattle.region.specs.declared.OobAnswer.{OobAnswer}
+use Rattle.region.specs.declared.OobAnswer.the-variants.{Given, Refused}
+use Rattle.region.specs.Oob.{extentOf, oobAnswer, JudgesN, oobNumber, oobBytes, OobByNumber}
 
 pub judges-n : (n size block page : ℕ) → JudgesN n size block page
 unfolding chipOf extentOf oobAnswer
@@ -20,3 +33,46 @@ judges-n n size block page = go (isBlocks n) refl
     go : (t : Bool) → isBlocks n ≡ t → JudgesN n size block page
     go false e = rw e
     go true e = let some = pages-pos n chip (rw e) in rw (e, ne-eqb (pagesOf chip) 0 (λ z. omega arith))
+
+-- a page that is given lies in the image
+pub given-inside : (e : Extent) (size block page : ℕ) → oobAnswer e size block page ≡ Given → (block * e .pages + page + 1) * 2112 ≤ size
+unfolding oobAnswer
+given-inside e size block page given = go (eqb (e .pages) 0) (eqb size (e .region * e .pages * 2112)) refl (ltb block (e .region) && ltb page (e .pages)) refl given
+  where
+    go : (none l : Bool) → eqb size (e .region * e .pages * 2112) ≡ l → (s : Bool) → (ltb block (e .region) && ltb page (e .pages)) ≡ s
+        → cond none (Refused Range) (judged Refused l s Given) ≡ Given → (block * e .pages + page + 1) * 2112 ≤ size
+    go true l a s b x = absurd (let z : _≡_ {A = ℕ} 0 1 = cc in omega arith)
+    go false false a s b x = absurd (let z : _≡_ {A = ℕ} 0 1 = cc in omega arith)
+    go false true a false b x = absurd (let z : _≡_ {A = ℕ} 0 1 = cc in omega arith)
+    go false true a true b x =
+        let whole = eqb-true size (e .region * e .pages * 2112) a in
+        let hb = ltb-true block (e .region) (both-left (ltb block (e .region)) (ltb page (e .pages)) b) in
+        let hp = ltb-true page (e .pages) (both-right (ltb block (e .region)) (ltb page (e .pages)) b) in
+        let last : suc block * e .pages ≤ e .region * e .pages = mul-le-mul-right (e .pages) hb in
+        omega (arith, last)
+
+number-above : (r : Refusal) → 0 < refusalNumber r
+number-above Length = omega arith
+number-above Range = omega arith
+number-above (BadBlock k) = omega arith
+number-above Tag = omega arith
+number-above Magic = omega arith
+number-above (Unrepairable h) = omega arith
+number-above NoCopy = omega arith
+number-above SeveralCopies = omega arith
+number-above Opposite = omega arith
+number-above NotSettled = omega arith
+number-above NoTarget = omega arith
+
+pub oob-by-number : (e : Extent) (image : List ℕ) (block page : ℕ) → OobByNumber e image block page
+unfolding oobBytes
+oob-by-number e image block page = go (oobAnswer e (length image) block page) refl
+  where
+    go : (a : OobAnswer) → oobAnswer e (length image) block page ≡ a → OobByNumber e image block page
+    go Given a =
+        let inside = given-inside e (length image) block page a in
+        record { given = λ z. rw a (simp (length-take, length-drop) (omega arith)); refused = λ z. absurd (z (rw a)) }
+    go (Refused r) a =
+        let above = number-above r in
+        let number : oobNumber (oobAnswer e (length image) block page) ≡ refusalNumber r = ap oobNumber a in
+        record { given = λ z. absurd (omega (arith, z)); refused = λ z. rw a }

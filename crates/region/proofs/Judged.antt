@@ -22,12 +22,13 @@ use Rattle.bbt.specs.Lent.{onChip, regionLent, statusesRight, judged}
 use Rattle.bbt.specs.Pages.{seen}
 use Rattle.bbt.specs.Pairs.{Case, no-pair, alone, settled, merging, differing, pairCase}
 use Rattle.bbt.specs.Plans.{holds, readCase, reading}
-use Rattle.bbt.specs.Stored.{storedTable}
+use Rattle.region.specs.Stored.{storedTable}
 use Rattle.bbt.specs.Told.{toldCase}
 use Rattle.bbt.specs.declared.Kind.{Kind}
 use Rattle.bbt.specs.declared.PairCase.{PairCase}
 use Rattle.bbt.specs.declared.PairCase.the-variants.{Refused as NoPair, Alone, Settled, Merging, Differing}
-use Rattle.bbt.proofs.Raw.{Valid, chip-valid, table-raw}
+use Rattle.bbt.proofs.Raw.{Valid, chip-valid}
+use Rattle.region.proofs.Stored.{table-raw}
 use Rattle.bbt.proofs.Views.{Copy, Copies, case-copies}
 use Rattle.region.specs.declared.Beside.{Beside}
 use Rattle.region.specs.declared.LentCase.the-variants.{Case as TheCase, Refused}

@@ -1,7 +1,7 @@
 -- What a count of good blocks and the last of them say of `find`.
 -- Assumes nothing.
 use mathlib.Core.Bool.{true}
-use mathlib.Core.Path.{_≡_, refl, _∙_, ap, sym}
+use mathlib.Core.Path.{_≡_, refl, ap, sym}
 use Prim.Native.Nat.{ℕ, zero, suc, _+_}
 use native.Mathlib.Numerals.{add-one}
 use Rattle.bbt.specs.Copies.{Found, nowhere, only, several, also}

@@ -8,7 +8,7 @@ use Rattle.bbt.specs.Copies.{Found, nowhere, only, several}
 use Rattle.bbt.specs.Lent.{onChip, regionLent, statusesRight, judged}
 use Rattle.bbt.specs.Pages.{seen, kindOf, versionOf, sameKind}
 use Rattle.bbt.specs.Pairs.{pairCase}
-use Rattle.bbt.specs.Told.{toldCase}
+use Rattle.bbt.specs.Told.{regionBlock, toldCase}
 use Rattle.bbt.specs.declared.Kind.{Kind}
 use Rattle.bbt.specs.declared.Kind.the-variants.{Neither}
 use Rattle.chip.specs.Large.{chipOf, bitmapBytes, pagesOf}
@@ -32,12 +32,12 @@ abbrev pub isSigned : Kind → Type 0
 isSigned k = sameKind k Neither ≡ false
 
 -- a page reads well, with the signature of a kind and a version
-abbrev pub pageMatches : Kind → ℕ → ℕ → List ℕ → Bool
+unfoldable pub pageMatches : Kind → ℕ → ℕ → List ℕ → Bool
 pageMatches k v s l = eqb s 0 && (sameKind k (kindOf l) && eqb v (versionOf l))
 
 abbrev pub locatedBy : Found → Located
 locatedBy nowhere = Nowhere
-locatedBy (only b) = Only b
+locatedBy (only b) = Only (regionBlock b)
 locatedBy several = Several
 
 -- what is lent beside the region has its length

@@ -1,6 +1,7 @@
 -- Document 01: the 64 OOB bytes of a page of a region image, as a part of the caller's slice.
 use mathlib.Core.Bool.{cond, _&&_}
 use mathlib.Core.List.{List, []}
+use mathlib.Core.Logic.{_≢_}
 use mathlib.Core.Path.{_≡_}
 use Prim.Native.Nat.{ℕ, _+_, _*_}
 use denote.Ref.{RefT, now, ptr}
@@ -8,6 +9,7 @@ use lib.Dec.{eqb, ltb}
 use lib.ListN.{length, take, drop}
 use Rattle.bbt.specs.Lent.{onChip, judged}
 use Rattle.chip.specs.Large.{chipOf, pagesOf}
+use Rattle.chip.specs.Refusals.{refusalNumber}
 use Rattle.chip.specs.declared.LargeChip.{LargeChip}
 use Rattle.chip.specs.declared.Refusal.the-variants.{Range}
 use Rattle.region.specs.declared.Extent.{Extent}
@@ -33,6 +35,11 @@ oobAnswer e size block page = cond (eqb (e .pages) 0) (Refused Range) (oobIn e s
 abbrev pub JudgesN : ℕ → ℕ → ℕ → ℕ → Type 0
 JudgesN n size block page = oobAnswer (extentOf n) size block page ≡ onChip Refused (chipOf n) (λ chip. oobIn (extentOn chip) size block page)
 
+-- document 01's number: 0 where the bytes are given, else the refusal's
+abbrev pub oobNumber : OobAnswer → ℕ
+oobNumber Given = 0
+oobNumber (Refused r) = refusalNumber r
+
 -- where the OOB bytes of a page start
 abbrev pub oobStart : Extent → ℕ → ℕ → ℕ
 oobStart e block page = (block * e .pages + page) * 2112 + 2048
@@ -44,6 +51,11 @@ oobBy (Refused r) image at = []
 
 unfoldable pub oobBytes : Extent → List ℕ → ℕ → ℕ → List ℕ
 oobBytes e image block page = oobBy (oobAnswer e (length image) block page) image (oobStart e block page)
+
+-- so there are 64 bytes where the number is 0, and none beside a refusal
+pub record OobByNumber (e : Extent) (image : List ℕ) (block page : ℕ) : Type 0 where
+  pub given : oobNumber (oobAnswer e (length image) block page) ≡ 0 → length (oobBytes e image block page) ≡ 64
+  pub refused : oobNumber (oobAnswer e (length image) block page) ≢ 0 → oobBytes e image block page ≡ []
 
 -- where they lie: in the image's own block of memory, from the image's offset on; an empty part lies at the image's start
 abbrev pub placeBy : OobAnswer → ℕ × ℕ → ℕ → ℕ × ℕ

@@ -8,14 +8,14 @@ ghost use Rattle.bbt.specs.Lent.{statusesRight};
 ghost use Rattle.bbt.specs.Pages.{kindOf, versionOf, pageBytes, pageStatus, seen, partLength};
 ghost use Rattle.bbt.specs.Pairs.{same, copies, compared, pairCase};
 ghost use Rattle.bbt.specs.Plans.{isFree, target};
-ghost use Rattle.bbt.specs.Stored.{storedParts, storedTable};
+ghost use Rattle.region.specs.Stored.{storedParts, storedTable};
 ghost use Rattle.bbt.specs.Told.{toldCase};
 ghost use Rattle.chip.specs.Large.{bitmapBytes, pagesOf};
 ghost use Rattle.region.specs.Cases.{Fits, isSigned, pageMatches, locatedBy, besideLent, caseOn, lentCase};
 ghost use Rattle.region.specs.Oob.{OobOf, extentOf, oobAnswer};
 ghost use Rattle.region.specs.Parts.{partOf};
 ghost use Rattle.region.specs.Tables.{tableAfter, tableAnswer};
-ghost use Rattle.region.specs.Targets.{toldTarget, lentTarget};
+ghost use Rattle.region.specs.Targets.{toldTarget, targetOn, lentTarget};
 use bbt::Kind;
 use bbt::PairCase;
 use chip::ChipAnswer;
@@ -29,13 +29,8 @@ fn kind_at(image: &[u8], i: usize) -> Kind
     requires { ⌜ (i + 1) * 2112 ≤ length (now image) ⌝ }
     ensures { λ r. ⌜ r ≡ kindOf (pageBytes (now (image .entry)) i) ⌝ }
 {
-    let at = i * LargeChip::PAGE_WITH_OOB;
-    Kind::of_signature(bits::word_of(
-        image[at + 2062],
-        image[at + 2063],
-        image[at + 2064],
-        image[at + 2065],
-    ))
+    let at = i * LargeChip::PAGE_WITH_OOB + LargeChip::SIGNATURE;
+    Kind::of_signature(bits::word_of(image[at], image[at + 1], image[at + 2], image[at + 3]))
 }
 
 // Does page i read well, with the signature of a kind and a version?
@@ -49,17 +44,17 @@ fn page_is(image: &[u8], status: &[u8], i: usize, kind: Kind, version: u8) -> bo
     if kind.signature() != kind_at(image, i).signature() {
         return false;
     }
-    version == image[i * LargeChip::PAGE_WITH_OOB + 2066]
+    version == image[i * LargeChip::PAGE_WITH_OOB + LargeChip::VERSION]
 }
 
 // Is region block b a good copy of a kind: its P pages all read well with that signature and one version?
-fn good_copy(chip: LargeChip, image: &[u8], status: &[u8], kind: Kind, b: u8) -> bool
-    requires { ⌜ Fits chip (length (now image)) (length (now status)) × (b < chip .region) × isSigned kind ⌝ }
-    ensures { λ r. ⌜ r ≡ good (pagesOf chip) (seen chip (now (image .entry)) (now (status .entry))) kind b ⌝ }
+fn good_copy(chip: LargeChip, image: &[u8], status: &[u8], kind: Kind, b: RegionBlock) -> bool
+    requires { ⌜ Fits chip (length (now image)) (length (now status)) × (b .0 < chip .region) × isSigned kind ⌝ }
+    ensures { λ r. ⌜ r ≡ good (pagesOf chip) (seen chip (now (image .entry)) (now (status .entry))) kind (b .0) ⌝ }
 {
     let pages = chip.pages();
-    let first = (b as usize) * pages;
-    let version = image[first * LargeChip::PAGE_WITH_OOB + 2066];
+    let first = (b.0 as usize) * pages;
+    let version = image[first * LargeChip::PAGE_WITH_OOB + LargeChip::VERSION];
     let mut p: usize = 0;
     while p < pages {
         if !page_is(image, status, first + p, kind, version) {
@@ -73,7 +68,7 @@ fn good_copy(chip: LargeChip, image: &[u8], status: &[u8], kind: Kind, b: u8) ->
 // Which blocks hold a good copy of a kind.
 enum Located {
     Nowhere,
-    Only(u8),
+    Only(RegionBlock),
     Several,
 }
 
@@ -87,7 +82,7 @@ fn locate(chip: LargeChip, image: &[u8], status: &[u8], kind: Kind) -> Located
     let mut last: u8 = 0;
     let mut b: u8 = 0;
     while b < region {
-        if good_copy(chip, image, status, kind, b) {
+        if good_copy(chip, image, status, kind, RegionBlock(b)) {
             count += 1;
             last = b;
         }
@@ -97,7 +92,7 @@ fn locate(chip: LargeChip, image: &[u8], status: &[u8], kind: Kind) -> Located
         return Located::Nowhere;
     }
     if count == 1 {
-        return Located::Only(last);
+        return Located::Only(RegionBlock(last));
     }
     Located::Several
 }
@@ -154,9 +149,12 @@ fn same_bitmaps(chip: LargeChip, image: &[u8], x: RegionBlock, y: RegionBlock) -
 pub fn version(chip: LargeChip, image: &[u8], b: RegionBlock) -> u8
     ensures { λ r. ⌜ r ≡ versionOf (pageBytes (now (image .entry)) (b .0 * pagesOf chip)) ⌝ }
 {
-    let at = (b.0 as usize) * chip.pages() * LargeChip::PAGE_WITH_OOB + 2066;
+    let at = (b.0 as usize) * chip.pages() * LargeChip::PAGE_WITH_OOB + LargeChip::VERSION;
     if at < image.len() { image[at] } else { 0 }
 }
+
+// The end of d that tells no newer copy.
+const OPPOSITE: i32 = -128;
 
 // The case of two good copies: the sign of d and its end at -128, then the bitmaps.
 fn both_case(chip: LargeChip, image: &[u8], p: RegionBlock, m: RegionBlock) -> PairCase
@@ -170,7 +168,7 @@ fn both_case(chip: LargeChip, image: &[u8], p: RegionBlock, m: RegionBlock) -> P
         }
         return PairCase::Merging(p, m);
     }
-    if d == -128 {
+    if d == OPPOSITE {
         return PairCase::Refused(Refusal::Opposite);
     }
     PairCase::Differing(d, p, m)
@@ -188,12 +186,12 @@ fn pair_case(chip: LargeChip, image: &[u8], status: &[u8]) -> PairCase
         Located::Nowhere => match mirror {
             Located::Several => PairCase::Refused(Refusal::SeveralCopies),
             Located::Nowhere => PairCase::Refused(Refusal::NoCopy),
-            Located::Only(m) => PairCase::Alone(Kind::Mirror, RegionBlock(m)),
+            Located::Only(m) => PairCase::Alone(Kind::Mirror, m),
         },
         Located::Only(p) => match mirror {
             Located::Several => PairCase::Refused(Refusal::SeveralCopies),
-            Located::Nowhere => PairCase::Alone(Kind::Primary, RegionBlock(p)),
-            Located::Only(m) => both_case(chip, image, RegionBlock(p), RegionBlock(m)),
+            Located::Nowhere => PairCase::Alone(Kind::Primary, p),
+            Located::Only(m) => both_case(chip, image, p, m),
         },
     }
 }
@@ -265,35 +263,36 @@ pub fn case_of(n: u64, beside: Beside, image: &[u8], status: &[u8]) -> LentCase
 }
 
 // Is region block b readable as bad: its first page reads well, has neither signature, and OOB byte 0 is 0?
-fn reads_bad(chip: LargeChip, image: &[u8], status: &[u8], b: u8) -> bool
-    requires { ⌜ Fits chip (length (now image)) (length (now status)) × (b < chip .region) ⌝ }
-    ensures { λ r. ⌜ r ≡ readsBad (seen chip (now (image .entry)) (now (status .entry))) b ⌝ }
+fn reads_bad(chip: LargeChip, image: &[u8], status: &[u8], b: RegionBlock) -> bool
+    requires { ⌜ Fits chip (length (now image)) (length (now status)) × (b .0 < chip .region) ⌝ }
+    ensures { λ r. ⌜ r ≡ readsBad (seen chip (now (image .entry)) (now (status .entry))) (b .0) ⌝ }
 {
-    let first = (b as usize) * chip.pages();
+    let first = (b.0 as usize) * chip.pages();
     if status[first] != 0 {
         return false;
     }
     if kind_at(image, first).signature() != Kind::Neither.signature() {
         return false;
     }
-    image[first * LargeChip::PAGE_WITH_OOB + 2048] == 0
+    image[first * LargeChip::PAGE_WITH_OOB + LargeChip::PAGE] == 0
 }
 
 // May region block b be a target beside the block to avoid?
-fn is_free(chip: LargeChip, image: &[u8], status: &[u8], avoid: RegionBlock, b: u8) -> bool
-    requires { ⌜ Fits chip (length (now image)) (length (now status)) × (b < chip .region) ⌝ }
-    ensures { λ r. ⌜ r ≡ isFree (seen chip (now (image .entry)) (now (status .entry))) (avoid .0 ∷ []) b ⌝ }
+fn is_free(chip: LargeChip, image: &[u8], status: &[u8], avoid: RegionBlock, b: RegionBlock) -> bool
+    requires { ⌜ Fits chip (length (now image)) (length (now status)) × (b .0 < chip .region) ⌝ }
+    ensures { λ r. ⌜ r ≡ isFree (seen chip (now (image .entry)) (now (status .entry))) (avoid .0 ∷ []) (b .0) ⌝ }
 {
-    if b == avoid.0 {
+    if b.0 == avoid.0 {
         return false;
     }
     !reads_bad(chip, image, status, b)
 }
 
-// The target of a recovery, or none.
+// The target of a recovery, that there is none, or the refusal of what was lent.
 pub enum TargetAnswer {
     Found(RegionBlock),
     Missing,
+    Refused(Refusal),
 }
 
 // The highest block that is neither the one to avoid nor readable as bad.
@@ -306,7 +305,7 @@ fn highest_free(chip: LargeChip, image: &[u8], status: &[u8], avoid: RegionBlock
     let mut last: u8 = 0;
     let mut b: u8 = 0;
     while b < region {
-        if is_free(chip, image, status, avoid, b) {
+        if is_free(chip, image, status, avoid, RegionBlock(b)) {
             found = true;
             last = b;
         }
@@ -318,21 +317,33 @@ fn highest_free(chip: LargeChip, image: &[u8], status: &[u8], avoid: RegionBlock
     TargetAnswer::Missing
 }
 
-// The target of a recovery beside a good copy; none where N or a length is wrong.
+// The target of a region lent on a judged chip.
+fn target_on(chip: LargeChip, image: &[u8], status: &[u8], avoid: RegionBlock) -> TargetAnswer
+    requires { ⌜ (0 < pagesOf chip) × (pagesOf chip ≤ 4) ⌝ }
+    ensures { λ r. ⌜ r ≡ targetOn chip (now (image .entry)) (now (status .entry)) (avoid .0) ⌝ }
+{
+    if image.len() != chip.region_bytes() {
+        return TargetAnswer::Refused(Refusal::Length);
+    }
+    if status.len() != chip.region_pages() {
+        return TargetAnswer::Refused(Refusal::Length);
+    }
+    if !statuses_right(status) {
+        return TargetAnswer::Refused(Refusal::Range);
+    }
+    if chip.region <= avoid.0 {
+        return TargetAnswer::Refused(Refusal::Range);
+    }
+    highest_free(chip, image, status, avoid)
+}
+
+// The target of a recovery beside a good copy: N is judged, then lengths, then status bytes and the copy's block.
 pub fn find_target(n: u64, image: &[u8], status: &[u8], avoid: RegionBlock) -> TargetAnswer
     ensures { λ r. ⌜ r ≡ lentTarget n (now (image .entry)) (now (status .entry)) (avoid .0) ⌝ }
 {
     match LargeChip::new(n) {
-        ChipAnswer::Refused(_) => TargetAnswer::Missing,
-        ChipAnswer::Chip(chip) => {
-            if image.len() != chip.region_bytes() {
-                return TargetAnswer::Missing;
-            }
-            if status.len() != chip.region_pages() {
-                return TargetAnswer::Missing;
-            }
-            highest_free(chip, image, status, avoid)
-        }
+        ChipAnswer::Refused(r) => TargetAnswer::Refused(r),
+        ChipAnswer::Chip(chip) => target_on(chip, image, status, avoid),
     }
 }
 

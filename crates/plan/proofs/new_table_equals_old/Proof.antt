@@ -11,7 +11,7 @@ use lib.ListN.{take}
 use lib.Seq.{take-all}
 use Rattle.bbt.specs.Entries.{updatedBytes}
 use Rattle.bbt.specs.Pairs.{same}
-use Rattle.bbt.specs.Stored.{storedParts}
+use Rattle.region.specs.Stored.{storedParts}
 use Rattle.bitmap.specs.Made.{newEqualsOld}
 use Rattle.chip.specs.Large.{pagesOf}
 use Rattle.plan.proofs.NewEqualsOld.{equal-next}

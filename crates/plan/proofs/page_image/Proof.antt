@@ -53,6 +53,9 @@ array-read-t29 c = search needs
 slice-aggregate-copy : tie.Need-slice-aggregate-copy
 slice-aggregate-copy c = search needs
 
+add-copy : tie.Need-add-copy
+add-copy c = search needs
+
 sub-copy-2 : tie.Need-sub-copy-2
 sub-copy-2 c = search needs
 
@@ -99,6 +102,7 @@ page-image-spec =
     array-read-t26
     array-read-t29
     slice-aggregate-copy
+    add-copy
     sub-copy-2
     part-copy-start-2
     part-copy-end-2

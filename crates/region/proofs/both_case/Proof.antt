@@ -9,7 +9,7 @@ use mir.Facts.{toZ-ofZ}
 use mir.Syntax.{w32}
 use mir.Val.{toZ, ofZ}
 use Rattle.bbt.specs.declared.PairCase.the-variants.{Differing}
-use Rattle.bbt.specs.Stored.{storedParts}
+use Rattle.region.specs.Stored.{storedParts}
 use Rattle.chip.specs.Large.{pagesOf}
 use Rattle.bbt.specs.Pairs.{same, differing, difference, bothCase, compared}
 use Rattle.bbt.specs.Told.{toldCase}

@@ -1,7 +1,6 @@
 -- `case_on` meets its contract: its tests are those of `caseOn`.
 -- Assumes nothing.
-use mathlib.Core.Path.{_≡_, _∙_, ap, sym}
-use native.Mathlib.Omega.{arith}
+use mathlib.Core.Path.{_∙_, ap, sym}
 use borrow.Author.Tests.{eq-eqb, ne-eqb, not-true, not-false}
 use Rattle.bbt.specs.Lent.{regionLent}
 use Rattle.region.specs.declared.LentCase.the-variants.{Case}

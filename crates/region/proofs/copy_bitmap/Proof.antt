@@ -9,7 +9,7 @@ use borrow.Rule.Slice.PartMut.{putMid, same-len-mid}
 use lib.ListN.{length, take}
 use lib.Seq.{take-all}
 use Rattle.bbt.specs.Pages.{partLength}
-use Rattle.bbt.specs.Stored.{storedParts}
+use Rattle.region.specs.Stored.{storedParts}
 use Rattle.chip.specs.Large.{bitmapBytes, pagesOf}
 use Rattle.region.proofs.Copying.{part-size, copy-next}
 use Rattle.region.proofs.copy_bitmap.Statement.{statement}

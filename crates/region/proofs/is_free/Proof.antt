@@ -1,7 +1,7 @@
 -- `is_free` meets its contract: the block to avoid, then the first page.
 -- Assumes nothing.
 use mathlib.Core.Bool.{not}
-use mathlib.Core.Path.{_∙_, ap}
+use mathlib.Core.Path.{ap}
 use borrow.Author.Tests.{eq-eqb, ne-eqb}
 use Rattle.bbt.specs.Plans.{member}
 use borrow.Author.Needs.{needs}

@@ -2,7 +2,7 @@
 -- Assumes nothing.
 use mathlib.Core.Path.{_∙_, ap, sym}
 use Rattle.bbt.specs.Pages.{kindOfWord}
-use Rattle.bbt.proofs.Raw.{page-kind}
+use Rattle.region.proofs.Bytes.{page-kind}
 use borrow.Author.Needs.{needs}
 use Rattle.region.proofs.kind_at.Statement.{statement}
 use Rattle.region.proofs.kind_at.Tie as tie
@@ -10,26 +10,26 @@ use Rattle.region.proofs.kind_at.Tie as tie
 mul-at : tie.Need-mul-at
 mul-at c = search needs
 
-add-word-of : tie.Need-add-word-of
-add-word-of c = search needs
+add-at : tie.Need-add-at
+add-at c = search needs
 
 shared-slice-read-word-of : tie.Need-shared-slice-read-word-of
 shared-slice-read-word-of c = search needs
 
-add-word-of-2 : tie.Need-add-word-of-2
-add-word-of-2 c = search needs
+add-word-of : tie.Need-add-word-of
+add-word-of c = search needs
 
 shared-slice-read-word-of-2 : tie.Need-shared-slice-read-word-of-2
 shared-slice-read-word-of-2 c = search needs
 
-add-word-of-3 : tie.Need-add-word-of-3
-add-word-of-3 c = search needs
+add-word-of-2 : tie.Need-add-word-of-2
+add-word-of-2 c = search needs
 
 shared-slice-read-word-of-3 : tie.Need-shared-slice-read-word-of-3
 shared-slice-read-word-of-3 c = search needs
 
-add-word-of-4 : tie.Need-add-word-of-4
-add-word-of-4 c = search needs
+add-word-of-3 : tie.Need-add-word-of-3
+add-word-of-3 c = search needs
 
 shared-slice-read-word-of-4 : tie.Need-shared-slice-read-word-of-4
 shared-slice-read-word-of-4 c = search needs
@@ -48,13 +48,13 @@ kind-at-spec =
     tie.close
     (tie.spec
     mul-at
-    add-word-of
+    add-at
     shared-slice-read-word-of
-    add-word-of-2
+    add-word-of
     shared-slice-read-word-of-2
-    add-word-of-3
+    add-word-of-2
     shared-slice-read-word-of-3
-    add-word-of-4
+    add-word-of-3
     shared-slice-read-word-of-4
     word-of-requires
     of-signature-requires

@@ -11,7 +11,6 @@ use Rattle.bbt.proofs.Searches.{find-next}
 use Rattle.chip.specs.Large.{pagesOf}
 use Rattle.region.specs.Cases.{locatedBy}
 use Rattle.region.proofs.Locating.{foundBy, found-more, found-several}
-use mathlib.Core.Path.{_≡_, refl, _∙_, ap, sym}
 use Rattle.region.proofs.locate.Statement.{statement}
 use Rattle.region.proofs.locate.Tie as tie
 

@@ -3,12 +3,11 @@
 use mathlib.Core.Path.{_≡_, _∙_, ap, ap₂, sym}
 use mathlib.Core.Bool.{true, false}
 use native.Mathlib.Omega.{arith}
-use Prim.Native.Nat.{ℕ}
 use borrow.Author.Tests.{eq-eqb, ne-eqb}
 use lib.Dec.{eqb}
-use Rattle.bbt.specs.Pages.{sameKind, kindOf, kindWord, pageBytes, versionOf}
-use Rattle.bbt.specs.declared.Kind.{Kind}
+use Rattle.bbt.specs.Pages.{sameKind, kindOf, kindWord, pageBytes}
 use Rattle.bbt.proofs.Raw.{page-byte}
+use Rattle.region.specs.Cases.{pageMatches}
 use Rattle.region.proofs.Bytes.{signature-same}
 use borrow.Author.Needs.{needs}
 use Rattle.region.proofs.page_is.Statement.{statement}
@@ -18,6 +17,7 @@ shared-slice-read-if1 : tie.Need-shared-slice-read-if1
 shared-slice-read-if1 c = search needs
 
 returns : tie.Need-returns
+unfolding pageMatches
 returns c = simp (ne-eqb _ _ (c .if1 .taken))
 
 signature-requires : tie.Need-signature-requires
@@ -30,6 +30,7 @@ signature-requires-2 : tie.Need-signature-requires-2
 signature-requires-2 c κs = search needs
 
 returns-2 : tie.Need-returns-2
+unfolding pageMatches
 returns-2 c =
     let a = c .before .before .before .before .before .before .before .before .args in
     let l = pageBytes (a .image .now) (a .i) in
@@ -48,6 +49,7 @@ shared-slice-read-result : tie.Need-shared-slice-read-result
 shared-slice-read-result c = search needs
 
 returns-3 : tie.Need-returns-3
+unfolding pageMatches
 returns-3 c =
     let a = c .before .before .before .before .before .before .before .before .before .args in
     let l = pageBytes (a .image .now) (a .i) in

@@ -2,19 +2,16 @@
 -- Assumes nothing.
 use Rattle.bbt.specs.Copies.{Found, nowhere, only, several}
 use Rattle.bbt.specs.Pages.{seen}
-use Rattle.bbt.specs.Pairs.{copies, caseOf, pairCase, compared}
-use Rattle.bbt.specs.Told.{toldCase}
+use Rattle.bbt.specs.Pairs.{copies, caseOf, pairCase}
 use Rattle.bbt.specs.declared.Kind.the-variants.{Primary, Mirror}
 use Rattle.region.specs.Cases.{locatedBy}
 use Rattle.region.specs.declared.Located.{Located}
 use Rattle.region.specs.declared.Located.the-variants.{Nowhere, Only, Several}
 use native.Mathlib.Omega.{arith}
 use Rattle.bbt.proofs.Views.{found-copy}
-use Rattle.bbt.proofs.Raw.{table-raw}
-use Rattle.chip.specs.Large.{pagesOf}
-use mathlib.Core.Path.{_≡_, refl, _∙_, ap, ap₂, sym}
-use Prim.Native.Nat.{ℕ}
-use Rattle.bbt.proofs.Raw.{primary-signed, mirror-signed}
+use Rattle.region.proofs.Stored.{table-raw}
+use mathlib.Core.Path.{_≡_, refl, _∙_, ap, sym}
+use Rattle.region.proofs.Stored.{primary-signed, mirror-signed}
 use borrow.Author.Needs.{needs}
 use Rattle.region.proofs.pair_case.Statement.{statement}
 use Rattle.region.proofs.pair_case.Tie as tie
@@ -22,7 +19,7 @@ use Rattle.region.proofs.pair_case.Tie as tie
 -- what was located, taken back
 abbrev foundOf : Located → Found
 foundOf Nowhere = nowhere
-foundOf (Only b) = only b
+foundOf (Only b) = only (b .0)
 foundOf Several = several
 
 located : (f : Found) (l : Located) → locatedBy f ≡ l → f ≡ foundOf l
@@ -67,8 +64,8 @@ both-case-requires : tie.Need-both-case-requires
 both-case-requires c κs =
     let a = c .before .before .before .before .before .before .before .before .before .before .args in
     let R = seen (a .chip) (a .image .now) (a .status .now) in
-    let first : copies (a .chip) R Primary ≡ only (c .before .before .before .before .primary .given .0 .0) = located _ _ (sym (c .before .before .before .before .before .before .before .locate .ensures) ∙ c .before .before .before .before .primary .given .1) in
-    let second : copies (a .chip) R Mirror ≡ only (c .before .mirror2 .given .0 .0) = located _ _ (sym (c .before .before .before .before .before .before .locate2 .ensures) ∙ c .before .mirror2 .given .1) in
+    let first : copies (a .chip) R Primary ≡ only (c .before .before .before .before .primary .given .0 .0 .0) = located _ _ (sym (c .before .before .before .before .before .before .before .locate .ensures) ∙ c .before .before .before .before .primary .given .1) in
+    let second : copies (a .chip) R Mirror ≡ only (c .before .mirror2 .given .0 .0 .0) = located _ _ (sym (c .before .before .before .before .before .before .locate2 .ensures) ∙ c .before .mirror2 .given .1) in
     let x = found-copy (a .chip) R Primary _ first in
     let y = found-copy (a .chip) R Mirror _ second in
     (omega (arith, c .before .before .before .before .before .before .before .before .before .before .pre .image), c .before .before .before .before .before .before .before .before .before .before .pre .few-pages, x .inside, y .inside)
@@ -105,7 +102,7 @@ returns-4 c =
     let a = c .before .before .before .before .before .before .before .before .before .args in
     let R = seen (a .chip) (a .image .now) (a .status .now) in
     let first : copies (a .chip) R Primary ≡ nowhere = located _ _ (sym (c .before .before .before .before .before .before .locate .ensures) ∙ c .before .before .before .enum-told2 .given .1) in
-    let second : copies (a .chip) R Mirror ≡ only (c .before .mirror .given .0 .0) = located _ _ (sym (c .before .before .before .before .before .locate2 .ensures) ∙ c .before .mirror .given .1) in
+    let second : copies (a .chip) R Mirror ≡ only (c .before .mirror .given .0 .0 .0) = located _ _ (sym (c .before .before .before .before .before .locate2 .ensures) ∙ c .before .mirror .given .1) in
     rw (first, second) refl
 
 returns-5 : tie.Need-returns-5
@@ -113,7 +110,7 @@ unfolding pairCase caseOf
 returns-5 c =
     let a = c .before .before .before .before .before .before .before .before .before .args in
     let R = seen (a .chip) (a .image .now) (a .status .now) in
-    let first : copies (a .chip) R Primary ≡ only (c .before .before .before .primary .given .0 .0) = located _ _ (sym (c .before .before .before .before .before .before .locate .ensures) ∙ c .before .before .before .primary .given .1) in
+    let first : copies (a .chip) R Primary ≡ only (c .before .before .before .primary .given .0 .0 .0) = located _ _ (sym (c .before .before .before .before .before .before .locate .ensures) ∙ c .before .before .before .primary .given .1) in
     let second : copies (a .chip) R Mirror ≡ several = located _ _ (sym (c .before .before .before .before .before .locate2 .ensures) ∙ c .enum-told5 .given .1) in
     rw (first, second) refl
 
@@ -122,7 +119,7 @@ unfolding pairCase caseOf
 returns-6 c =
     let a = c .before .before .before .before .before .before .before .before .before .args in
     let R = seen (a .chip) (a .image .now) (a .status .now) in
-    let first : copies (a .chip) R Primary ≡ only (c .before .before .before .primary .given .0 .0) = located _ _ (sym (c .before .before .before .before .before .before .locate .ensures) ∙ c .before .before .before .primary .given .1) in
+    let first : copies (a .chip) R Primary ≡ only (c .before .before .before .primary .given .0 .0 .0) = located _ _ (sym (c .before .before .before .before .before .before .locate .ensures) ∙ c .before .before .before .primary .given .1) in
     let second : copies (a .chip) R Mirror ≡ nowhere = located _ _ (sym (c .before .before .before .before .before .locate2 .ensures) ∙ c .enum-told6 .given .1) in
     rw (first, second) refl
 
@@ -131,8 +128,8 @@ unfolding pairCase caseOf
 returns-7 c =
     let a = c .before .before .before .before .before .before .before .before .before .before .before .args in
     let R = seen (a .chip) (a .image .now) (a .status .now) in
-    let first : copies (a .chip) R Primary ≡ only (c .before .before .before .before .before .primary .given .0 .0) = located _ _ (sym (c .before .before .before .before .before .before .before .before .locate .ensures) ∙ c .before .before .before .before .before .primary .given .1) in
-    let second : copies (a .chip) R Mirror ≡ only (c .before .before .mirror2 .given .0 .0) = located _ _ (sym (c .before .before .before .before .before .before .before .locate2 .ensures) ∙ c .before .before .mirror2 .given .1) in
+    let first : copies (a .chip) R Primary ≡ only (c .before .before .before .before .before .primary .given .0 .0 .0) = located _ _ (sym (c .before .before .before .before .before .before .before .before .locate .ensures) ∙ c .before .before .before .before .before .primary .given .1) in
+    let second : copies (a .chip) R Mirror ≡ only (c .before .before .mirror2 .given .0 .0 .0) = located _ _ (sym (c .before .before .before .before .before .before .before .locate2 .ensures) ∙ c .before .before .mirror2 .given .1) in
     let x = found-copy (a .chip) R Primary _ first in
     let y = found-copy (a .chip) R Mirror _ second in
     let pos = c .before .before .before .before .before .before .before .before .before .before .before .pre .some-pages in

@@ -1,6 +1,6 @@
 -- `same_bitmaps` meets its contract: the parts before page p are equal or not, as `equal` says.
 -- Assumes nothing.
-use mathlib.Core.Bool.{Bool, and-true, and-false, _&&_}
+use mathlib.Core.Bool.{and-true, and-false, _&&_}
 use mathlib.Core.Logic.{⊎-elim}
 use mathlib.Core.Path.{_≡_, refl, _∙_, ap, ap₂, sym}
 use Prim.Native.Nat.{ℕ, _≤_, _-_, _<_}
@@ -9,7 +9,7 @@ use borrow.Author.Needs.{needs}
 use borrow.Author.Tests.{not-true, not-false}
 use lib.ListN.{length}
 use Rattle.bbt.specs.Pairs.{same}
-use Rattle.bbt.specs.Stored.{storedParts}
+use Rattle.region.specs.Stored.{storedParts}
 use Rattle.chip.specs.Large.{pagesOf}
 use Rattle.region.proofs.Bitmaps.{lengths-next, same-next}
 use Rattle.region.proofs.same_bitmaps.Statement.{statement}

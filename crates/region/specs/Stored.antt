@@ -2,10 +2,10 @@
 use mathlib.Core.List.{List, [], _++_}
 use Prim.Native.Nat.{ℕ, zero, suc, _+_, _*_}
 use lib.ListN.{take}
+use Rattle.bbt.specs.Copies.{Table}
+use Rattle.bbt.specs.Pages.{pageBytes, partLength, versionOf}
 use Rattle.chip.specs.Large.{pagesOf}
 use Rattle.chip.specs.declared.LargeChip.{LargeChip}
-use Rattle.bbt.specs.Copies.{Table}
-use Rattle.bbt.specs.Pages.{pageBytes, partLength, versionOf}
 
 -- the bitmap's parts in the first n pages of region block b, one after the other
 unfoldable pub storedParts : LargeChip → List ℕ → ℕ → ℕ → List ℕ

@@ -1,0 +1,64 @@
+-- The public answers go by N's refusal, or by what bbt's law says is the same.
+-- Assumes nothing.
+use mathlib.Core.List.{List}
+use mathlib.Core.Path.{_≡_, refl, sym, ap, _∙_}
+use Prim.Native.Nat.{ℕ}
+use Rattle.bbt.proofs.Dependence.{dependence}
+use Rattle.bbt.specs.Dependence.{Alike, Depends}
+use Rattle.bbt.specs.Lent.{onChip, tableReading, planned, imaged}
+use Rattle.bbt.specs.Plans.{Reading, Call}
+use Rattle.chip.specs.Large.{chipOf}
+use Rattle.chip.specs.declared.ChipAnswer.{ChipAnswer}
+use Rattle.chip.specs.declared.ChipAnswer.the-variants.{Chip, Refused as NoChip}
+use Rattle.chip.specs.declared.LargeChip.{LargeChip}
+use Rattle.plan.proofs.Bridge.{bridged}
+use Rattle.plan.specs.Answers.{toldAnswer, planAnswer}
+use Rattle.plan.specs.Dependence.{PublicDependence}
+use Rattle.plan.specs.PageImages.{lentImage, imageAnswerBy, imageAfterBy, imageAnswer, imageAfter}
+use Rattle.region.specs.Tables.{toldReading, roomBy, tableAnswer, tableAfter}
+use Rattle.region.specs.declared.TableAnswer.the-variants.{Refused}
+
+module _ (n : ℕ) (status x y : List ℕ) where
+  -- bbt's law for every N: a refused one is answered without a look at the image
+  depends : (a : ChipAnswer) → chipOf n ≡ a → ((chip : LargeChip) → chipOf n ≡ Chip chip → Alike chip status x y) → Depends n status x y
+  unfolding tableReading planned imaged
+  depends (NoChip r) e alike = record { reads = λ room. rw e; plans = λ call. rw e; images = λ call i. rw e }
+  depends (Chip chip) e alike = dependence n chip status x y e (alike chip e)
+
+  plans-same : (a : ChipAnswer) → chipOf n ≡ a → Depends n status x y → (call : Call) → planAnswer n call x status ≡ planAnswer n call y status
+  unfolding planAnswer
+  plans-same (NoChip r) e d call = rw e
+  plans-same (Chip chip) e d call =
+      bridged n chip call x status e .plans ∙ ap (toldAnswer chip) (d .plans call) ∙ sym (bridged n chip call y status e .plans)
+
+  module _ (d : Depends n status x y) where
+    tables-same : (room : List ℕ) → tableAnswer n x status room ≡ tableAnswer n y status room
+    unfolding tableAnswer
+    tables-same room = ap (λ (t : Reading). onChip Refused (chipOf n) (λ chip. toldReading chip t)) (d .reads room)
+
+    bitmaps-same : (room : List ℕ) → tableAfter n x status room ≡ tableAfter n y status room
+    unfolding tableAfter
+    bitmaps-same room = ap (λ (t : Reading). roomBy t room) (d .reads room)
+
+    lent-same : (call : Call) (i : ℕ) (room : List ℕ) → lentImage n call x status i room ≡ lentImage n call y status i room
+    unfolding lentImage
+    lent-same call i room = rw (d .images call i)
+
+    images-same : (call : Call) (i : ℕ) (room : List ℕ) → imageAnswer n call x status i room ≡ imageAnswer n call y status i room
+    unfolding imageAnswer
+    images-same call i room = ap imageAnswerBy (lent-same call i room)
+
+    pages-same : (call : Call) (i : ℕ) (room : List ℕ) → imageAfter n call x status i room ≡ imageAfter n call y status i room
+    unfolding imageAfter
+    pages-same call i room = ap (λ t. imageAfterBy t room) (lent-same call i room)
+
+pub public-dependence : PublicDependence
+public-dependence n status x y alike =
+    let d = depends n status x y (chipOf n) refl alike in
+    record {
+      tables = tables-same n status x y d;
+      bitmaps = bitmaps-same n status x y d;
+      plans = plans-same n status x y (chipOf n) refl d;
+      images = images-same n status x y d;
+      pages = pages-same n status x y d;
+    }
