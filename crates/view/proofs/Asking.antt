@@ -33,7 +33,7 @@ use denote.Exit.{yes}
 use Rattle.chip.specs.declared.RegionBlock.{RegionBlock}
 use Rattle.chip.proofs.RegionBlock as R
 use Rattle.chip.proofs.RegionBlock.Laws as R′
-use Rattle.region.specs.Oob.{OobOf, extentOf, oobAnswer}
+use Rattle.region.specs.Oob.{OobOf, oobAnswer}
 use Rattle.region.specs.declared.Extent.{Extent}
 use Rattle.region.proofs.Extent as X
 use Rattle.region.proofs.OobAnswer as E
@@ -92,9 +92,6 @@ module _ (Q : Question) where
   module _ {M : Type 1} (𝓤 : URA M) where
     abbrev pub region-clauses : Clauses 𝓤 region
     region-clauses κs a = record { ghost = Unit {0}; requires = λ _. emp 𝓤; ensures = λ _ r _. fact 𝓤 (Q .told κs (a .0) (a .1 .0) (a .1 .1 .0 .0) (a .1 .1 .1 .0) r) }
-
-    abbrev pub above-clauses : Clauses 𝓤 above
-    above-clauses κs a = record { ghost = Unit {0}; requires = λ _. emp 𝓤; ensures = λ _ r _. fact 𝓤 (Q .told κs (extentOf (a .0)) (a .1 .0) (a .1 .1 .0 .0) (a .1 .1 .1 .0) r) }
 
   -- region's as a triple, for a caller
   module _ {M : Type 1} (𝓤 : URA M) (H : Heap 𝓤) (A : Atoms 𝓤) where

@@ -1,5 +1,7 @@
 -- `oob_of` meets its contract: the walk of `Above.antt`, at the field `part`.
 -- Assumes nothing.
+use base.Logic.{emp}
+use contract.Monad.{factI}
 use contract.Running.{givenOf, tables, tablesOf}
 use denote.Triple.Spec.{tripleOf}
 use denote.Triple.Table.{entered, cited}
@@ -21,6 +23,6 @@ unfolding code.routine tablesOf
 oob-of-spec 𝓤 H 𝓜 𝓖 𝓡 =
     entered 𝓤 H (tripleOf 𝓤 H (𝓖 .A) oob-of.signature (oob-of.spec 𝓤 H (𝓖 .A) (𝓜 .mem) (𝓡 .run)))
     (tables 𝓤 H 𝓜 𝓡 code.env .C) (tables 𝓤 H 𝓜 𝓡 code.env .Λ) #view·oob-of code.function (code.unfolded 𝓤 H 𝓜 𝓡)
-    (meets 𝓤 H (𝓖 .A) (givenOf 𝓤 H 𝓜 𝓖) (𝓜 .mem) (𝓡 .run) (tablesOf 𝓤 H 𝓜 (tables 𝓤 H 𝓜 𝓡 code.env)) part 1 handed (part-typed 𝓤 H (𝓖 .A) (givenOf 𝓤 H 𝓜 𝓖))
+    (meets 𝓤 H (𝓖 .A) (givenOf 𝓤 H 𝓜 𝓖) (𝓜 .mem) (𝓡 .run) (tablesOf 𝓤 H 𝓜 (tables 𝓤 H 𝓜 𝓡 code.env)) part 1 handed (oob-of.clauses 𝓤 H (𝓖 .A) (𝓜 .mem) (𝓡 .run)) (λ κs n s b p g r h. factI 𝓤 _ (emp 𝓤) (h .1)) (part-typed 𝓤 H (𝓖 .A) (givenOf 𝓤 H 𝓜 𝓖))
     (cited 𝓤 H (New 𝓤 H (𝓖 .A) (𝓜 .mem) (𝓡 .run)) 𝓜 𝓡 code.env #view·View·new new-def.routine code.calls-view·View·new (new-thm.met 𝓤 H 𝓜 𝓖 𝓡))
     (cited 𝓤 H (Ask 𝓤 H (𝓖 .A) (𝓜 .mem) (𝓡 .run)) 𝓜 𝓡 code.env #view·View·oob oob-def.routine code.calls-view·View·oob (oob-thm.met 𝓤 H 𝓜 𝓖 𝓡)))
