@@ -14,11 +14,13 @@ use mir.Fields.{getV}
 use base.Logic.{SProp, ent, sep, guard, emp, via, monoR, fst∗, snd∗, exE, id⊢}
 use base.Fml.{Lft, Share, Fml, ftrue, flft, fat}
 use prog.Memory.{Memory, fieldOf}
-use prog.Routine.{Routine}
+use prog.Model.{Model}
+use prog.Routine.{Routine, Env}
 use prog.Wp.{Heap, Calls, Loops, WpFn, Tables}
 use ghost.Atoms.{Atoms, sem}
 use contract.Lifetimes.{Lfts}
 use contract.Monad.{Fun, fact}
+use contract.Running.{GhostRules, Running, givenOf, tables, tablesOf}
 use types.Kit.{Given, ‵, raw, _⊛_, given, ⋆, some, later, _$_, _∵_, !, qed, by, move, drop, use0, use1, use2, rewrite, split, learn, check, pick, fsplit, fjoin, suffices, frame, await, done}
 use types.Part.{whole, sub, look-in}
 use types.Run.{look, init, forget, stop, fld, from, load, of-opd, and-then, no-more, assigns, land, returns, enter, alloc1, alloc0, params1, pass1, pass0, free1, free0}
@@ -41,6 +43,7 @@ use denote.Triple.Call.{calls-at}
 use denote.Triple.Clauses.{Clauses, atExit, closing, ensured, lasts}
 use denote.Triple.Entry.{onEntry}
 use denote.Triple.Spec.{Meets, tripleOf}
+use denote.Triple.Table.{cited}
 use denote.Triple.Walked.{Stays, stay-none, stay-none-slice, walkOf, goes-none, goes-none-slice, onExit, ends-at, walked, walk-meets}
 use denote.Exit.{yes}
 use Rattle.chip.specs.declared.RegionBlock.{RegionBlock}
@@ -56,9 +59,13 @@ use Rattle.view.proofs.View.Laws as T′
 use Rattle.view.proofs.Oob as O
 use Rattle.view.proofs.Oob.Laws as O′
 use Rattle.view.proofs.View.new as new
+use Rattle.view.proofs.View.new.Symbol as new-def
 use Rattle.view.proofs.View.new.Symbol.{name as #view·View·new}
+use Rattle.view.proofs.View.new.Met as new-thm
 use Rattle.view.proofs.View.oob as oob
+use Rattle.view.proofs.View.oob.Symbol as oob-def
 use Rattle.view.proofs.View.oob.Symbol.{name as #view·View·oob}
+use Rattle.view.proofs.View.oob.Met as oob-thm
 
 -- ---- what a view hands back
 -- its type and the type's laws, over a signature's lifetimes; of a value, its fields' values and their machine values
@@ -115,10 +122,10 @@ module _ {M : Type 1} (𝓤 : URA M) (Q : Question) (k : ℕ) (F : Field Q k) (c
 
 -- the contracts of `View::new` and `View::oob`
 module _ {M : Type 1} (𝓤 : URA M) (H : Heap 𝓤) (A : Atoms 𝓤) (mem : Memory → SProp 𝓤) (run : Routine → Fun 𝓤) where
-  abbrev pub New : Contract 𝓤
+  abbrev New : Contract 𝓤
   New = tripleOf 𝓤 H A new.signature (new.spec 𝓤 H A mem run)
 
-  abbrev pub Ask : Contract 𝓤
+  abbrev Ask : Contract 𝓤
   Ask = tripleOf 𝓤 H A oob.signature (oob.spec 𝓤 H A mem run)
 
 module _ {M : Type 1} (𝓤 : URA M) (H : Heap 𝓤) (A : Atoms 𝓤) (W : Given 𝓤 H A) (mem : Memory → SProp 𝓤) (run : Routine → Fun 𝓤) (Q : Question) (k : ℕ) (F : Field Q k) (c : Clauses 𝓤 (above Q)) (shown : Shown 𝓤 Q k F c) (κ : Lft) (q : Share) (n : ℕ) (s : RefT (List ℕ)) (b : RegionBlock) (p : ℕ) (g : c (κ, tt) (n, (s, (b, (p, tt)))) .ghost) (n-ok : n < 2 ^ 64) (isb : Is R.the-row b (R′.lowered b ∷ [])) (p-ok : p < 2 ^ 8) where
@@ -243,7 +250,7 @@ module _ {M : Type 1} (𝓤 : URA M) (H : Heap 𝓤) (A : Atoms 𝓤) (W : Given
         move ! (15 ∷ 16 ∷ []) $ free1 ! $ move ! (13 ∷ 14 ∷ []) $ free1 ! $ move ! (11 ∷ 12 ∷ []) $ free1 ! $ move ! (9 ∷ 10 ∷ []) $ free1 ! $ move ! (7 ∷ 8 ∷ []) $ free1 ! $ move ! (5 ∷ 6 ∷ []) $ free1 ! $ move ! (3 ∷ 4 ∷ []) $ free1 ! $ free0 ! $ by ! (exits r (together d r e h)))))))))))))))))))
 
 -- the walk, taken to the contract
-pub meets : {M : Type 1} (𝓤 : URA M) (H : Heap 𝓤) (A : Atoms 𝓤) (W : Given 𝓤 H A) (mem : Memory → SProp 𝓤) (run : Routine → Fun 𝓤) (𝓣 : Tables 𝓤 H) (Q : Question) (k : ℕ) (F : Field Q k) (c : Clauses 𝓤 (above Q)) → Shown 𝓤 Q k F c → Typed Q
+meets : {M : Type 1} (𝓤 : URA M) (H : Heap 𝓤) (A : Atoms 𝓤) (W : Given 𝓤 H A) (mem : Memory → SProp 𝓤) (run : Routine → Fun 𝓤) (𝓣 : Tables 𝓤 H) (Q : Question) (k : ℕ) (F : Field Q k) (c : Clauses 𝓤 (above Q)) → Shown 𝓤 Q k F c → Typed Q
     → Triple 𝓤 (𝓣 .C #view·View·new) (New 𝓤 H A mem run) → Triple 𝓤 (𝓣 .C #view·View·oob) (Ask 𝓤 H A mem run)
     → Meets 𝓤 H A (above Q .signature) (WpFn 𝓤 H (𝓣 .C) (𝓣 .Λ) (function Q k)) (closing 𝓤 H A (above Q) c)
 meets 𝓤 H A W mem run 𝓣 Q k F c shown typed known-new known =
@@ -255,3 +262,13 @@ meets 𝓤 H A W mem run 𝓣 Q k F c shown typed known-new known =
     (λ κs. (uint-tells w64, (shr-slice-tells (named 0) (κs .0) u8, (LL.tells R.the-type R′.the-laws, (uint-tells w8, tt)))))
     (λ κs qs bounds a g are. via 𝓤 _ (fst∗ 𝓤 _ (c κs a .requires g))
     (walk 𝓤 H A W mem run Q k F c shown (κs .0) (qs .0) (a .0) (a .1 .0) (a .1 .1 .0) (a .1 .1 .1 .0) g (are .0 .1) (are .1 .1 .0) (are .1 .1 .1 .0 .1) (𝓣 .C) (𝓣 .Λ) (fmOf 𝓤 H (W .laws) 𝓣) known-new known typed (are .1 .0))))
+
+-- for a function in whose code the two keys mean the view's functions
+pub reached : {M : Type 1} (𝓤 : URA M) (H : Heap 𝓤) (𝓜 : Model 𝓤 H) (𝓖 : GhostRules 𝓤 H) (𝓡 : Running 𝓤 H 𝓜) (γ : Env) → γ #view·View·new ≡ new-def.routine → γ #view·View·oob ≡ oob-def.routine
+    → (Q : Question) (k : ℕ) (F : Field Q k) (c : Clauses 𝓤 (above Q)) → Shown 𝓤 Q k F c → Typed Q
+    → Meets 𝓤 H (𝓖 .A) (above Q .signature) (WpFn 𝓤 H (tables 𝓤 H 𝓜 𝓡 γ .C) (tables 𝓤 H 𝓜 𝓡 γ .Λ) (function Q k)) (closing 𝓤 H (𝓖 .A) (above Q) c)
+unfolding tablesOf
+reached 𝓤 H 𝓜 𝓖 𝓡 γ calls-new calls-oob Q k F c shown typed =
+    meets 𝓤 H (𝓖 .A) (givenOf 𝓤 H 𝓜 𝓖) (𝓜 .mem) (𝓡 .run) (tablesOf 𝓤 H 𝓜 (tables 𝓤 H 𝓜 𝓡 γ)) Q k F c shown typed
+    (cited 𝓤 H (New 𝓤 H (𝓖 .A) (𝓜 .mem) (𝓡 .run)) 𝓜 𝓡 γ #view·View·new new-def.routine calls-new (new-thm.met 𝓤 H 𝓜 𝓖 𝓡))
+    (cited 𝓤 H (Ask 𝓤 H (𝓖 .A) (𝓜 .mem) (𝓡 .run)) 𝓜 𝓡 γ #view·View·oob oob-def.routine calls-oob (oob-thm.met 𝓤 H 𝓜 𝓖 𝓡))
