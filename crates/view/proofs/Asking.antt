@@ -1,5 +1,5 @@
--- What can be asked of an extent, an image, a block and a page: the answer, and the part. Three functions put each question, with one clause: region's, on plain
--- parameters, the view's, and the one above that makes a view for it. Their signatures, their contracts, and what their walks share.
+-- What can be asked of an extent, an image, a block and a page: the answer, and the part. Region has a function for each, on plain parameters, and so has the view, which makes
+-- a view of N and an image for it. Their signatures, their contracts, and what the walks share.
 -- Assumes nothing.
 use mathlib.Core.Path.{_≡_, refl}
 use Prim.Native.Nat.{ℕ, _<_, _^_}
@@ -33,7 +33,7 @@ use denote.Exit.{yes}
 use Rattle.chip.specs.declared.RegionBlock.{RegionBlock}
 use Rattle.chip.proofs.RegionBlock as R
 use Rattle.chip.proofs.RegionBlock.Laws as R′
-use Rattle.region.specs.Oob.{OobOf, extentOf, oobAnswer}
+use Rattle.region.specs.Oob.{OobOf, oobAnswer}
 use Rattle.region.specs.declared.Extent.{Extent}
 use Rattle.region.proofs.Extent as X
 use Rattle.region.proofs.OobAnswer as E
@@ -71,7 +71,7 @@ module _ {M : Type 1} (𝓤 : URA M) (H : Heap 𝓤) (A : Atoms 𝓤) (W : Given
   pub part-typed : Typed part
   part-typed κs r u is = shr-slice-lawful 𝓤 H A W (named 0) (κs .0) u8 .typed r _ is .0
 
--- ---- the three functions
+-- ---- the functions of a question: region's, and the one above the view
 -- the view's type, over a signature's lifetimes
 abbrev pub B : Lfts 1 → RattleType
 B κs = T.the-row (namedLft 1 0 tt κs)
@@ -81,12 +81,6 @@ module _ (Q : Question) where
   region = record {
     signature = record { lifetimes = 1; outlives = []; params = plain (λ _. X.the-row) ∷ Image ∷ plain (λ _. R.the-row) ∷ plain (λ _. u8) ∷ []; result = Q .result };
     kept = (yes, (yes, (yes, (yes, tt))));
-  }
-
-  abbrev pub thin : Ended
-  thin = record {
-    signature = record { lifetimes = 1; outlives = []; params = plain B ∷ plain (λ _. R.the-row) ∷ plain (λ _. u8) ∷ []; result = Q .result };
-    kept = (yes, (yes, (yes, tt)));
   }
 
   abbrev pub above : Ended
@@ -99,19 +93,10 @@ module _ (Q : Question) where
     abbrev pub region-clauses : Clauses 𝓤 region
     region-clauses κs a = record { ghost = Unit {0}; requires = λ _. emp 𝓤; ensures = λ _ r _. fact 𝓤 (Q .told κs (a .0) (a .1 .0) (a .1 .1 .0 .0) (a .1 .1 .1 .0) r) }
 
-    abbrev pub thin-clauses : Clauses 𝓤 thin
-    thin-clauses κs a = record { ghost = Unit {0}; requires = λ _. emp 𝓤; ensures = λ _ r _. fact 𝓤 (Q .told κs (a .0 .extent) (a .0 .image) (a .1 .0 .0) (a .1 .1 .0) r) }
-
-    abbrev pub above-clauses : Clauses 𝓤 above
-    above-clauses κs a = record { ghost = Unit {0}; requires = λ _. emp 𝓤; ensures = λ _ r _. fact 𝓤 (Q .told κs (extentOf (a .0)) (a .1 .0) (a .1 .1 .0 .0) (a .1 .1 .1 .0) r) }
-
-  -- as triples, for a caller
+  -- region's as a triple, for a caller
   module _ {M : Type 1} (𝓤 : URA M) (H : Heap 𝓤) (A : Atoms 𝓤) where
     abbrev pub Region : Contract 𝓤
     Region = tripleOf 𝓤 H A (region .signature) (closing 𝓤 H A region (region-clauses 𝓤))
-
-    abbrev pub Thin : Contract 𝓤
-    Thin = tripleOf 𝓤 H A (thin .signature) (closing 𝓤 H A thin (thin-clauses 𝓤))
 
 -- ---- what the walks share
 -- a callee that requires nothing asks only what its parameters own

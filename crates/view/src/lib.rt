@@ -1,6 +1,6 @@
-// A view of a lent region image: a struct that holds the image itself, and thin functions over it, proved by hand. Each leaves
-// its work to a function of `region` with plain parameters. `answer_of` and `oob_of` make a view for one question: their callers
-// have none in hand, and so no proof by hand.
+// A view of a lent region image: a struct that holds the image itself, and thin functions over it, proved by hand. Asked for a
+// page, it leaves the work to functions of `region` with plain parameters, and hands back one struct. `answer_of` and `oob_of`
+// make a view for one question: their callers have none in hand, and so no proof by hand.
 ghost use mathlib.Core.Path.{_≡_};
 ghost use lib.ListN.{length};
 ghost use Rattle.region.specs.Oob.{OobOf, extentOf, oobAnswer};
@@ -14,6 +14,12 @@ pub struct View<'a> {
     extent: Extent,
 }
 
+// What a view hands back of a page: the answer, and the 64 OOB bytes as a part of the lent image; an empty part beside a refusal.
+pub struct Oob<'a> {
+    pub answer: OobAnswer,
+    pub part: &'a [u8],
+}
+
 impl<'a> View<'a> {
     // A view of the region image of a chip of n blocks.
     pub fn new(n: u64, image: &'a [u8]) -> View<'a>
@@ -25,18 +31,14 @@ impl<'a> View<'a> {
         }
     }
 
-    // Are the OOB bytes of a page given, or refused? N is judged, then the image's length, then block and page.
-    pub fn answer(self, block: RegionBlock, page: u8) -> OobAnswer
-        ensures { λ r. ⌜ r ≡ oobAnswer (self .entry .extent) (length (now (self .entry .image))) (block .0) page ⌝ }
+    // The OOB bytes of a page, or a refusal: N is judged, then the image's length, then block and page.
+    pub fn oob(self, block: RegionBlock, page: u8) -> Oob<'a>
+        ensures { λ r. ⌜ (r .answer ≡ oobAnswer (self .entry .extent) (length (now (self .entry .image))) (block .0) page) × OobOf (self .entry .extent) (self .entry .image) (block .0) page (r .part) ⌝ }
     {
-        region::oob_answer(self.extent, self.image, block, page)
-    }
-
-    // The 64 OOB bytes of a page, as a part of the lent image; an empty part beside a refusal.
-    pub fn oob(self, block: RegionBlock, page: u8) -> &'a [u8]
-        ensures { λ r. ⌜ OobOf (self .entry .extent) (self .entry .image) (block .0) page r ⌝ }
-    {
-        region::oob(self.extent, self.image, block, page)
+        Oob {
+            answer: region::oob_answer(self.extent, self.image, block, page),
+            part: region::oob(self.extent, self.image, block, page),
+        }
     }
 }
 
@@ -44,12 +46,12 @@ impl<'a> View<'a> {
 pub fn answer_of(n: u64, image: &[u8], block: RegionBlock, page: u8) -> OobAnswer
     ensures { λ r. ⌜ r ≡ oobAnswer (extentOf n) (length (now (image .entry))) (block .0) page ⌝ }
 {
-    View::new(n, image).answer(block, page)
+    View::new(n, image).oob(block, page).answer
 }
 
 // The OOB bytes that such a view hands back.
 pub fn oob_of(n: u64, image: &[u8], block: RegionBlock, page: u8) -> &[u8]
     ensures { λ r. ⌜ OobOf (extentOf n) (image .entry) (block .0) page r ⌝ }
 {
-    View::new(n, image).oob(block, page)
+    View::new(n, image).oob(block, page).part
 }
