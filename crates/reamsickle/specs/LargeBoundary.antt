@@ -34,7 +34,7 @@ unfoldable pub firstCode : ℕ → List ℕ → List ℕ → ℕ
 firstCode n marks room = firstCodeBy (firstAnswer n marks room)
 
 -- ---- ream_table_read: the version in bits 8-15, the primary's chip block in bits 16-31, the mirror's in bits 32-47; sixteen bits
--- hold a chip block (`Claims`)
+-- hold a chip block (`BlocksBelow`, crate `claims`)
 abbrev pub tableCodeBy : TableAnswer → ℕ
 tableCodeBy (Read version primary mirror) = 256 * version + 65536 * (primary .0 % 65536) + 4294967296 * (mirror .0 % 65536)
 tableCodeBy (NotRead r) = refusalCode r

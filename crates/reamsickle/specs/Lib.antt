@@ -1,4 +1,3 @@
 pub mod Boundary
 pub mod LargeBoundary
-pub mod Claims
 pub mod Examples

@@ -27,6 +27,12 @@ use spare::SpareAnswer;
 use spare::SpareFields;
 use spare::WriteAnswer;
 
+// The answer of a call that was not refused and tells no number.
+const ANSWERED: u64 = 0;
+
+// The bytes of a plan's steps: sixteen of four.
+const STEPS: usize = 64;
+
 // A refusal's number in the low 8 bits, its detail above.
 fn refusal_code(r: Refusal) -> u64
     ensures { λ n. ⌜ n ≡ refusalCode r ⌝ }
@@ -49,7 +55,7 @@ pub extern "C" fn ream_half_code(half: &[u8], code: &mut [u8]) -> u64
     let c = ecc::code_of(half);
     let made = [c.one, c.two, c.three];
     bits::copy(&made, code);
-    0
+    ANSWERED
 }
 
 // Writes the spare of a page: 512 data bytes, tag, path and count in, sixteen bytes out.
@@ -65,7 +71,7 @@ pub extern "C" fn ream_spare_write(
     ensures out { λ _. ⌜ now (spare .exit) ≡ spareAfter (now (bytes .entry)) tag path count (now (spare .entry)) ⌝ }
 {
     match spare::write_spare(bytes, tag, path, count, spare) {
-        WriteAnswer::Written => 0,
+        WriteAnswer::Written => ANSWERED,
         WriteAnswer::Refused(r) => refusal_code(r),
     }
 }
@@ -106,7 +112,7 @@ pub extern "C" fn ream_spare_read(spare: &[u8], fields: &mut [u8]) -> u64
         SpareAnswer::Read(f) => {
             let repaired = f.repaired;
             put_fields(f, repaired.repairs(), fields);
-            0
+            ANSWERED
         }
     }
 }
@@ -126,7 +132,7 @@ pub extern "C" fn ream_page_read(bytes: &mut [u8], spare: &[u8], fields: &mut [u
         PageAnswer::Read(f) => {
             let told = f.spare;
             put_fields(told, f.repairs(), fields);
-            0
+            ANSWERED
         }
     }
 }
@@ -138,7 +144,7 @@ pub extern "C" fn ream_first_bitmap(n: u64, marks: &[u8], bitmap: &mut [u8]) -> 
     ensures out { λ _. ⌜ now (bitmap .exit) ≡ firstAfter n (now (marks .entry)) (now (bitmap .entry)) ⌝ }
 {
     match bitmap::first_bitmap(n, marks, bitmap) {
-        BitmapAnswer::Made => 0,
+        BitmapAnswer::Made => ANSWERED,
         BitmapAnswer::Refused(r) => refusal_code(r),
     }
 }
@@ -195,7 +201,7 @@ fn tell_plan(n: u64, answer: PlanAnswer, steps: &mut [u8]) -> u64
     match LargeChip::new(n) {
         ChipAnswer::Refused(r) => refusal_code(r),
         ChipAnswer::Chip(_) => {
-            if steps.len() != 64 {
+            if steps.len() != STEPS {
                 return refusal_code(Refusal::Length);
             }
             match answer {
@@ -239,7 +245,7 @@ fn image_code(answer: ImageAnswer) -> u64
     ensures { λ r. ⌜ r ≡ imageCodeBy answer ⌝ }
 {
     match answer {
-        ImageAnswer::Made => 0,
+        ImageAnswer::Made => ANSWERED,
         ImageAnswer::Refused(r) => refusal_code(r),
     }
 }

@@ -26,7 +26,7 @@ use Rattle.plan.specs.Answers.{toldAnswer, planAnswer}
 use Rattle.plan.specs.declared.PlanAnswer.the-variants.{Refused as NotPlanned}
 use Rattle.region.specs.Tables.{toldReading, tableAnswer}
 use Rattle.region.specs.declared.TableAnswer.the-variants.{Refused as NotRead}
-use Rattle.reamsickle.specs.Claims.{TableBelow, PlanBelow, BlocksBelow}
+use Rattle.claims.specs.Blocks.{TableBelow, PlanBelow, BlocksBelow}
 
 -- what is found among the numbers below n is below n
 abbrev FoundBelow : ℕ → Option ℕ → Type 0
@@ -53,7 +53,10 @@ module _ (n : ℕ) (image status : List ℕ) (chip : LargeChip) (is : chipOf n �
   unfolding readCase
   table-case (no-pair r) x = tt
   table-case (alone k b) x = tt
-  table-case (settled p m) x = (below p (x .0 .inside), below m (x .1 .inside))
+  table-case (settled p m) x =
+      let first = below p (x .0 .inside) in
+      let second = below m (x .1 .inside) in
+      (omega arith, omega arith)
   table-case (merging p m) x = tt
   table-case (differing d p m) x = tt
 

@@ -1,0 +1,20 @@
+-- The C entries tell what the public contracts answer, and that depends on the bytes that count alone.
+-- Assumes nothing.
+use mathlib.Core.Path.{ap}
+use Rattle.plan.proofs.Dependence.{public-dependence}
+use Rattle.plan.specs.declared.PlanAnswer.{PlanAnswer}
+use Rattle.reamsickle.specs.LargeBoundary.{tableCodeBy, tableCode, planCode, stepsAfter, imageCodeBy, imageCode}
+use Rattle.claims.specs.Dependence.{DependenceInC}
+
+pub dependence-in-c : DependenceInC
+unfolding tableCode imageCode
+dependence-in-c n status x y alike =
+    let same = public-dependence n status x y alike in
+    record {
+      tables = λ room. ap tableCodeBy (same .tables room);
+      bitmaps = same .bitmaps;
+      plans = λ call room. ap (λ (a : PlanAnswer). planCode n a room) (same .plans call);
+      steps = λ call room. ap (λ (a : PlanAnswer). stepsAfter n a room) (same .plans call);
+      images = λ call i room. ap imageCodeBy (same .images call i room);
+      pages = same .pages;
+    }

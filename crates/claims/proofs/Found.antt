@@ -1,0 +1,246 @@
+-- What a driver finds in its buffers is what the histories of demand 3 speak of: the parts of an answer, the four bytes of each step, the
+-- page of a step, the table.
+-- Assumes nothing.
+use mathlib.Core.Bool.{Bool, true, false, cond}
+use mathlib.Core.List.{List, [], _∷_, _++_, append-assoc}
+use mathlib.Core.Logic.{_≢_}
+use mathlib.Core.Option.{Option, none, some}
+use mathlib.Core.Path.{_≡_, refl, sym, ap, _∙_, subst}
+use Prim.Native.Nat.{ℕ, zero, suc, _+_, _*_, _%_, _<_, _≤_}
+use native.Mathlib.Omega.{arith}
+use borrow.Author.Tests.{eq-eqb}
+use lib.IntN.{pos, negsuc}
+use lib.ListN.{length, drop, getD, length-append, length-map, List·getD-append}
+use lib.Seq.{getD-append-add}
+use Rattle.bbt.proofs.LeftPages.{Judged, version-byte}
+use Rattle.bbt.proofs.Planning.{sole-version, reading-settled, plan-asked}
+use Rattle.bbt.proofs.ToldSteps.{tells-steps}
+use Rattle.bbt.specs.Copies.{Table, table}
+use Rattle.bbt.specs.Entries.{updatedBytes}
+use Rattle.bbt.specs.Histories.{snapshot, answer, asked}
+use Rattle.bbt.specs.Pairs.{same, Case, no-pair, alone, settled, merging, differing, pairCase}
+use Rattle.bbt.specs.Plans.{Step, erase, write, Plan, idle, double, stepsOf, planVersion, nextVersion, Answer, refuse, plan, Reading, refused, holds, reading, readCase, updated, updateFrom, update, target, otherKind, recoverTo, anded, recoverNewer, recoverCase, recovery, Call, for-update, for-recovery, planByRules}
+use Rattle.bbt.specs.Regions.{Region, view}
+use Rattle.bbt.specs.Told.{chipBlock, toldPlan, toldStep, toldSteps, nthStep}
+use Rattle.bbt.specs.declared.Step.{Step as ToldStep}
+use Rattle.bbt.specs.declared.Step.the-variants.{Erase, Write, Past}
+use Rattle.chip.specs.Large.{bitmapBytes, pagesOf}
+use Rattle.chip.specs.Refusals.{refusalNumber}
+use Rattle.chip.specs.declared.LargeChip.{LargeChip}
+use Rattle.chip.specs.declared.Refusal.{Refusal}
+use Rattle.chip.specs.declared.Refusal.the-variants.{Length, Range, BadBlock, Tag, Magic, Unrepairable, NoCopy, SeveralCopies, Opposite, NotSettled, NoTarget}
+use Rattle.plan.proofs.Bridge.{bridged}
+use Rattle.plan.specs.Answers.{toldAnswer}
+use Rattle.plan.specs.PageImages.{imageAnswerBy, imageAfterBy}
+use Rattle.reamsickle.proofs.Steps.{plan-room}
+use Rattle.reamsickle.specs.Boundary.{refusalCode}
+use Rattle.reamsickle.specs.LargeBoundary.{tableCodeBy, tableCode, stepBytes, planBytes, stepsPut, planCodeBy, stepsPutBy, planCode, stepsAfter, imageCodeBy, imageCode, roomOf}
+use Rattle.region.proofs.Bridge.{read-bridged}
+use Rattle.region.specs.Tables.{toldReading, roomBy}
+use Rattle.claims.specs.Driver.{refusalIn, versionIn, stepsIn, DriverStep, erases, writes, stepByte, stepBlock, driverStep, planTold, stepsTold, imageTold, pageTold, readTold, bitmapTold, tableTold}
+
+-- ---- a refusal's number is not 0
+number-range : (x : Refusal) → (0 < refusalNumber x) × (refusalNumber x < 256)
+number-range Length = (omega arith, omega arith)
+number-range Range = (omega arith, omega arith)
+number-range (BadBlock k) = (omega arith, omega arith)
+number-range Tag = (omega arith, omega arith)
+number-range Magic = (omega arith, omega arith)
+number-range (Unrepairable h) = (omega arith, omega arith)
+number-range NoCopy = (omega arith, omega arith)
+number-range SeveralCopies = (omega arith, omega arith)
+number-range Opposite = (omega arith, omega arith)
+number-range NotSettled = (omega arith, omega arith)
+number-range NoTarget = (omega arith, omega arith)
+
+pub refusal-told : (x : Refusal) → refusalIn (refusalCode x) ≢ 0
+refusal-told x e = let h = number-range x in omega arith
+
+-- ---- the four bytes of a step
+four-long : (s : ToldStep) → length (stepBytes s) ≡ 4
+four-long (Erase b) = refl
+four-long (Write b p k) = refl
+four-long Past = refl
+
+pub step-byte : (ss : List ToldStep) (rest : List ℕ) (i k : ℕ) → i < length ss → k < 4
+    → stepByte (planBytes ss ++ rest) i k ≡ getD (stepBytes (nthStep ss i)) k 0
+unfolding planBytes nthStep
+step-byte [] rest i k h hk = absurd (omega arith)
+step-byte (s ∷ ss) rest zero k h hk =
+    ap (λ (n : ℕ). getD ((stepBytes s ++ planBytes ss) ++ rest) n 0) (omega arith)
+    ∙ List·getD-append (stepBytes s ++ planBytes ss) rest 0 k (omega (arith, length-append (stepBytes s) (planBytes ss), four-long s))
+    ∙ List·getD-append (stepBytes s) (planBytes ss) 0 k (omega (arith, four-long s))
+step-byte (s ∷ ss) rest (suc i) k h hk =
+    ap (λ (l : List ℕ). getD l (4 * suc i + k) 0) (append-assoc (stepBytes s) (planBytes ss) rest)
+    ∙ ap (λ (n : ℕ). getD (stepBytes s ++ (planBytes ss ++ rest)) n 0) (omega (arith, four-long s))
+    ∙ getD-append-add (stepBytes s) (planBytes ss ++ rest) (4 * i + k) 0
+    ∙ step-byte ss rest i k (omega arith) hk
+
+-- the block of a step
+abbrev pub blockOf : Step → ℕ
+blockOf (erase b) = b
+blockOf (write b p k t) = b
+
+-- a step as a driver sees it
+abbrev pub seenStep : LargeChip → Step → DriverStep
+seenStep chip (erase b) = erases (chipBlock chip b .0)
+seenStep chip (write b p k t) = writes (chipBlock chip b .0) p
+
+module _ (ss : List ToldStep) (room : List ℕ) (i : ℕ) (h : i < length ss) (chip : LargeChip) where
+  byte-told : (e : Step) (k : ℕ) → nthStep ss i ≡ toldStep chip e → k < 4 → stepByte (stepsPut ss room) i k ≡ getD (stepBytes (toldStep chip e)) k 0
+  unfolding stepsPut
+  byte-told e k at hk = step-byte ss (drop (4 * length ss) room) i k h hk ∙ ap (λ (s : ToldStep). getD (stepBytes s) k 0) at
+
+  pub step-block : (e : Step) → nthStep ss i ≡ toldStep chip e → chipBlock chip (blockOf e) .0 < 65536
+      → stepBlock (stepsPut ss room) i ≡ chipBlock chip (blockOf e) .0
+  step-block (erase b) at small =
+      let one = byte-told (erase b) 1 at (omega arith) in
+      let two = byte-told (erase b) 2 at (omega arith) in
+      omega arith
+  step-block (write b p k t) at small =
+      let one = byte-told (write b p k t) 1 at (omega arith) in
+      let two = byte-told (write b p k t) 2 at (omega arith) in
+      omega arith
+
+  pub step-seen : (e : Step) → nthStep ss i ≡ toldStep chip e → chipBlock chip (blockOf e) .0 < 65536 → driverStep (stepsPut ss room) i ≡ seenStep chip e
+  unfolding driverStep
+  step-seen (erase b) at small = rw (byte-told (erase b) 0 at (omega arith)) (ap erases (step-block (erase b) at small))
+  step-seen (write b p k t) at small =
+      rw (byte-told (write b p k t) 0 at (omega arith), byte-told (write b p k t) 3 at (omega arith))
+      (ap (λ (c : ℕ). writes c p) (step-block (write b p k t) at small))
+
+pub as-many : (chip : LargeChip) (q : Plan) → length (toldSteps (toldPlan chip q)) ≡ length (stepsOf (pagesOf chip) q)
+as-many chip q = ap length (tells-steps chip q) ∙ length-map (stepsOf (pagesOf chip) q) (toldStep chip)
+
+-- ---- versions are bytes
+updated-version : (o : Table) (w : List ℕ) → o .version < 256 → updated o w .version < 256
+unfolding updated nextVersion
+updated-version o w h = go (same (updatedBytes (o .bitmap) w) (o .bitmap))
+  where
+    go : (t : Bool) → cond t o (record { version = (o .version + 1) % 256; bitmap = updatedBytes (o .bitmap) w }) .version < 256
+    go true = h
+    go false = omega arith
+
+abbrev VersionBelow : Answer → Type 0
+VersionBelow (refuse x) = Unit {0}
+VersionBelow (plan q) = planVersion q < 256
+
+module _ {chip : LargeChip} (r : Region chip) where
+  held : (b : ℕ) → table (pagesOf chip) (view r) b .version < 256
+  unfolding table
+  held b = version-byte r b 0
+
+  update-version : (w : List ℕ) (c : Case) → VersionBelow (updateFrom w (readCase (pagesOf chip) (view r) c))
+  unfolding updateFrom readCase planVersion
+  update-version w (no-pair x) = tt
+  update-version w (alone k g) = tt
+  update-version w (settled p m) = go (same (updatedBytes (o .bitmap) w) (o .bitmap))
+    where
+      o : Table
+      o = table (pagesOf chip) (view r) p
+
+      go : (t : Bool) → VersionBelow (plan (cond t (idle (o .version)) (double p m (updated o w))))
+      go true = held p
+      go false = updated-version o w (held p)
+  update-version w (merging p m) = tt
+  update-version w (differing d p m) = tt
+
+  recovery-version : (c : Case) → VersionBelow (recoverCase chip (view r) c)
+  unfolding recoverCase recoverTo recoverNewer anded nextVersion planVersion
+  recovery-version (no-pair x) = tt
+  recovery-version (alone k g) = go (target chip (view r) (g ∷ []))
+    where
+      go : (o : Option ℕ) → VersionBelow (recoverTo (otherKind k) g (table (pagesOf chip) (view r) g) o)
+      go none = tt
+      go (some b) = held g
+  recovery-version (settled p m) = held p
+  recovery-version (merging p m) = omega arith
+  recovery-version (differing (pos n) p m) = held p
+  recovery-version (differing (negsuc n) p m) = held m
+
+  rules-version : (call : Call) → VersionBelow (planByRules chip (view r) call)
+  unfolding planByRules update reading recovery
+  rules-version (for-update w) = update-version w (pairCase chip (view r))
+  rules-version for-recovery = recovery-version (pairCase chip (view r))
+
+-- ---- the answers on a region
+module _ {chip : LargeChip} (ok : Judged chip) (r : Region chip) where
+  plan-version : (call : Call) (q : Plan) → answer call (snapshot r) ≡ plan q → planVersion q < 256
+  plan-version call q e = subst (λ (x : Answer). VersionBelow x) (plan-asked ok r call q e .first) (rules-version r call)
+
+  module _ (call : Call) (room : List ℕ) (long : length room ≡ 64) where
+    pub plan-told : planTold call r room ≡ planCodeBy (toldAnswer chip (answer call (snapshot r)))
+    unfolding planCode
+    plan-told = rw (ok .is-chip, eq-eqb (length room) 64 long) (ap planCodeBy (bridged (chip .blocks) chip call (r .image) (r .status) (ok .is-chip) .plans))
+
+    pub steps-told : stepsTold call r room ≡ stepsPutBy (toldAnswer chip (answer call (snapshot r))) room
+    unfolding stepsAfter
+    steps-told = rw (ok .is-chip, eq-eqb (length room) 64 long) (ap (λ a. stepsPutBy a room) (bridged (chip .blocks) chip call (r .image) (r .status) (ok .is-chip) .plans))
+
+    pub refused-told : (x : Refusal) → answer call (snapshot r) ≡ refuse x → refusalIn (planTold call r room) ≢ 0
+    refused-told x e z =
+        let c : planTold call r room ≡ refusalCode x = plan-told ∙ ap (λ (a : Answer). planCodeBy (toldAnswer chip a)) e in
+        refusal-told x (ap refusalIn (sym c) ∙ z)
+
+    module _ (q : Plan) (e : answer call (snapshot r) ≡ plan q) where
+      code-told : planTold call r room ≡ 256 * planVersion q + 65536 * length (stepsOf (pagesOf chip) q)
+      code-told =
+          plan-told ∙ ap (λ (a : Answer). planCodeBy (toldAnswer chip a)) e ∙ ap (λ (n : ℕ). 256 * planVersion q + 65536 * n) (as-many chip q)
+
+      few-steps : 4 * length (stepsOf (pagesOf chip) q) ≤ 64
+      few-steps =
+          let told = bridged (chip .blocks) chip call (r .image) (r .status) (ok .is-chip) .plans ∙ ap (toldAnswer chip) e in
+          let room = subst (λ a. roomOf a ≤ 64) told (plan-room (chip .blocks) call (r .image) (r .status)) in
+          omega (arith, as-many chip q)
+
+      -- answered, with the version and the number of steps
+      pub plan-answered : refusalIn (planTold call r room) ≡ 0
+      plan-answered = ap refusalIn code-told ∙ omega arith
+
+      pub version-told : versionIn (planTold call r room) ≡ planVersion q
+      version-told = ap versionIn code-told ∙ omega (arith, plan-version call q e)
+
+      pub count-told : stepsIn (planTold call r room) ≡ length (stepsOf (pagesOf chip) q)
+      count-told = ap stepsIn code-told ∙ omega (arith, plan-version call q e, few-steps)
+
+      pub filled : stepsTold call r room ≡ stepsPut (toldSteps (toldPlan chip q)) room
+      filled = steps-told ∙ ap (λ (a : Answer). stepsPutBy (toldAnswer chip a) room) e
+
+  -- the page of a step
+  pub page-answered : (call : Call) (i : ℕ) (page : List ℕ) → length page ≡ 2112 → imageTold call r i page ≡ imageCodeBy (imageAnswerBy (asked call (snapshot r) i))
+  unfolding imageCode
+  page-answered call i page h = ap imageCodeBy (bridged (chip .blocks) chip call (r .image) (r .status) (ok .is-chip) .answers i page h)
+
+  pub page-filled : (call : Call) (i : ℕ) (page : List ℕ) → length page ≡ 2112 → pageTold call r i page ≡ imageAfterBy (asked call (snapshot r) i) page
+  page-filled call i page h = bridged (chip .blocks) chip call (r .image) (r .status) (ok .is-chip) .pages i page h
+
+  -- the table
+  module _ (room : List ℕ) (long : length room ≡ bitmapBytes chip) where
+    pub read-told : readTold r room ≡ tableCodeBy (toldReading chip (reading chip (view r)))
+    unfolding tableCode
+    read-told = ap tableCodeBy (read-bridged (chip .blocks) chip r (ok .is-chip) .answers room long)
+
+    pub bitmap-told : bitmapTold r room ≡ roomBy (reading chip (view r)) room
+    bitmap-told = read-bridged (chip .blocks) chip r (ok .is-chip) .bitmaps room long
+
+    module _ (p m : ℕ) (t : Table) (e : reading chip (view r) ≡ holds p m t) where
+      pub code-read : readTold r room ≡ 256 * t .version + 65536 * (chipBlock chip p .0 % 65536) + 4294967296 * (chipBlock chip m .0 % 65536)
+      code-read = read-told ∙ ap (λ (x : Reading). tableCodeBy (toldReading chip x)) e
+
+      pub read-answered : refusalIn (readTold r room) ≡ 0
+      read-answered = ap refusalIn code-read ∙ omega arith
+
+      pub table-told : tableTold r room ≡ t
+      table-told =
+          let byte : t .version < 256 = sole-version (reading-settled r p m t e .0) in
+          let version : versionIn (readTold r room) ≡ t .version = ap versionIn code-read ∙ omega arith in
+          let bitmap : bitmapTold r room ≡ t .bitmap = bitmap-told ∙ ap (λ (x : Reading). roomBy x room) e in
+          rw (version, bitmap) refl
+
+    -- what is answered is a settled pair
+    pub read-settled : refusalIn (readTold r room) ≡ 0 → (p : ℕ) × (m : ℕ) × (reading chip (view r) ≡ holds p m (tableTold r room))
+    read-settled z = go (reading chip (view r)) refl
+      where
+        go : (x : Reading) → reading chip (view r) ≡ x → (p : ℕ) × (m : ℕ) × (reading chip (view r) ≡ holds p m (tableTold r room))
+        go (refused x) e = absurd (refusal-told x (ap refusalIn (sym (read-told ∙ ap (λ (y : Reading). tableCodeBy (toldReading chip y)) e)) ∙ z))
+        go (holds p m t) e = (p, m, rw (table-told p m t e) e)

@@ -1,0 +1,26 @@
+-- Document 01: "Any other byte may change and no answer does", of the C entries that take a region image: for every N, refused ones too, every
+-- answer and every lent byte after the call.
+use mathlib.Core.List.{List}
+use mathlib.Core.Path.{_≡_}
+use Prim.Native.Nat.{ℕ}
+use Rattle.bbt.specs.Dependence.{Alike}
+use Rattle.bbt.specs.Plans.{Call}
+use Rattle.chip.specs.Large.{chipOf}
+use Rattle.chip.specs.declared.ChipAnswer.the-variants.{Chip}
+use Rattle.chip.specs.declared.LargeChip.{LargeChip}
+use Rattle.plan.specs.Answers.{planAnswer}
+use Rattle.plan.specs.PageImages.{imageAfter}
+use Rattle.region.specs.Tables.{tableAfter}
+use Rattle.reamsickle.specs.LargeBoundary.{tableCode, planCode, stepsAfter, imageCode}
+
+-- of images x and y under the same status bytes: ream_table_read, the plan entries, the page entries
+pub record SameInC (n : ℕ) (status x y : List ℕ) : Type 0 where
+  pub tables : (room : List ℕ) → tableCode n x status room ≡ tableCode n y status room
+  pub bitmaps : (room : List ℕ) → tableAfter n x status room ≡ tableAfter n y status room
+  pub plans : (call : Call) (room : List ℕ) → planCode n (planAnswer n call x status) room ≡ planCode n (planAnswer n call y status) room
+  pub steps : (call : Call) (room : List ℕ) → stepsAfter n (planAnswer n call x status) room ≡ stepsAfter n (planAnswer n call y status) room
+  pub images : (call : Call) (i : ℕ) (room : List ℕ) → imageCode n call x status i room ≡ imageCode n call y status i room
+  pub pages : (call : Call) (i : ℕ) (room : List ℕ) → imageAfter n call x status i room ≡ imageAfter n call y status i room
+
+abbrev pub DependenceInC : Type 0
+DependenceInC = (n : ℕ) (status x y : List ℕ) → ((chip : LargeChip) → chipOf n ≡ Chip chip → Alike chip status x y) → SameInC n status x y

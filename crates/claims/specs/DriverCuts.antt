@@ -1,0 +1,64 @@
+-- Demand 3 as a sentence about the bytes of the C entries: a driver that follows the header, from any region that ream_table_read answers,
+-- through any list of plans, steps and cuts.
+use mathlib.Core.Bool.{false}
+use mathlib.Core.List.{List}
+use mathlib.Core.Path.{_≡_}
+use Prim.Native.Nat.{ℕ, _-_, _<_, _≤_}
+use lib.ListN.{length}
+use Rattle.bbt.specs.Copies.{readsBad}
+use Rattle.bbt.specs.Histories.{one-table}
+use Rattle.bbt.specs.Plans.{Call, for-update, for-recovery}
+use Rattle.bbt.specs.PowerCuts.{NotGoodKept, Outcome}
+use Rattle.bbt.specs.Regions.{Region, view}
+use Rattle.chip.specs.Large.{chipOf, bitmapBytes, pagesOf}
+use Rattle.chip.specs.declared.ChipAnswer.the-variants.{Chip}
+use Rattle.chip.specs.declared.LargeChip.{LargeChip}
+use Rattle.claims.specs.Driver.{refusalIn, DriverStep, erases, writes, driverStep, planTold, imageTold, readTold, tableTold, placeOf, nothing, doing, DriverWorld, at, DriverHistory}
+
+-- the chip block that a step names is one of N − 4 to N − 1
+abbrev pub BlockInRegion : LargeChip → ℕ → Type 0
+BlockInRegion chip c = (chip .blocks - chip .region ≤ c) × (c < chip .blocks)
+
+module _ {chip : LargeChip} where
+  abbrev pub regionAt : DriverWorld chip → Region chip
+  regionAt (at r h l) = r
+
+  -- ream_table_read answers: the pair is settled
+  abbrev pub Answers : Region chip → List ℕ → Type 0
+  Answers r room = (length room ≡ bitmapBytes chip) × (refusalIn (readTold r room) ≡ 0)
+
+  -- any region that it answers, no plan in hand; old is what it told
+  pub data DriverStart : DriverWorld chip → Type 0 where
+    from-settled : {r : Region chip} (room : List ℕ) → Answers r room → DriverStart (at r nothing (one-table (tableTold r room)))
+
+  -- a recovery with no step left: ream_table_read answers, with the version and the bitmap of the outcome
+  abbrev pub DriverSettles : DriverWorld chip → Type 0
+  DriverSettles (at r nothing l) = Unit {0}
+  DriverSettles (at r (doing (for-update w) a steps n i) l) = Unit {0}
+  DriverSettles (at r (doing for-recovery a steps n i) l) =
+      n ≤ i → (room : List ℕ) → length room ≡ bitmapBytes chip → (refusalIn (readTold r room) ≡ 0) × Outcome l (tableTold r room)
+
+  -- the next step erases no block readable as bad, or writes a page below P, for which the page entry is not refused
+  abbrev pub DriverHarmless : Call → Region chip → ℕ → Region chip → DriverStep → Type 0
+  DriverHarmless call a i r (erases c) = BlockInRegion chip c × (readsBad (view r) (placeOf chip c) ≡ false)
+  DriverHarmless call a i r (writes c p) =
+      BlockInRegion chip c × (p < pagesOf chip) × ((page : List ℕ) → length page ≡ 2112 → imageTold call a i page ≡ 0)
+
+  abbrev pub DriverNext : DriverWorld chip → Type 0
+  DriverNext (at r nothing l) = Unit {0}
+  DriverNext (at r (doing call a steps n i) l) = i < n → DriverHarmless call a i r (driverStep steps i)
+
+  -- what holds at every moment; ream_recovery_plan is never refused
+  pub record DriverPromise (w : DriverWorld chip) : Type 0 where
+    pub settles : DriverSettles w
+    pub next-step : DriverNext w
+    pub recovers : (steps : List ℕ) → length steps ≡ 64 → refusalIn (planTold for-recovery (regionAt w) steps) ≡ 0
+
+-- after every list of events; and a block that a settled table calls not good keeps that entry in every later settled one
+pub record DriverSafe (chip : LargeChip) : Type 0 where
+  pub promise : {w v : DriverWorld chip} → DriverStart w → DriverHistory w v → DriverPromise v
+  pub not-good-kept : {w v u : DriverWorld chip} → DriverStart w → DriverHistory w v → DriverHistory v u → (x y : List ℕ)
+      → Answers (regionAt v) x → Answers (regionAt u) y → NotGoodKept chip (tableTold (regionAt v) x) (tableTold (regionAt u) y)
+
+abbrev pub Demand3InC : Type 0
+Demand3InC = (n : ℕ) (chip : LargeChip) → chipOf n ≡ Chip chip → DriverSafe chip

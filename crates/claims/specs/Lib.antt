@@ -1,0 +1,6 @@
+pub mod Blocks
+pub mod ReadBack
+pub mod Dependence
+pub mod Driver
+pub mod Found
+pub mod DriverCuts
