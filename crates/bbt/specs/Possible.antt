@@ -77,7 +77,7 @@ module _ {chip : LargeChip} where
   IsLeft x (left-complete oob) r s b p = Written s b p x × (take 14 (drop 2048 (bytesAt s b p)) ≡ oob)
   IsLeft x (left-unreadable l) r s b p = Unreadable s b p × (bytesAt s b p ≡ l)
 
-  -- the pages of a step are
+  -- the pages of a step are left so
   abbrev pub AreLeft : Imaged → (ℕ → Left) → Step → Region chip → Region chip → Type 0
   AreLeft x left (erase b) r s = (p : ℕ) → p < pagesOf chip → IsLeft x (left p) r s b p
   AreLeft x left (write b p k t) r s = IsLeft x (left p) r s b p
