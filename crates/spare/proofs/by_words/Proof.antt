@@ -1,15 +1,16 @@
 -- `by_words` meets its contract: its test is that of `byWords`.
 -- Assumes nothing.
 use mathlib.Core.Path.{refl}
+use native.Mathlib.Omega.{arith}
 use borrow.Author.Tests.{eq-eqb, ne-eqb}
-use Rattle.spare.specs.Reading.{byWords}
+use Rattle.spare.specs.Reading.{magicOf, byWords}
 use borrow.Author.Needs.{needs}
 use Rattle.spare.proofs.by_words.Statement.{statement}
 use Rattle.spare.proofs.by_words.Tie as tie
 
 returns : tie.Need-returns
 unfolding byWords
-returns c = simp (ne-eqb _ _ (c .if1 .taken))
+returns c = simp (ne-eqb (magicOf (c .before .before .before .args .count .bits)) 0x56 (λ e. omega arith))
 
 shared-slice-read-t12 : tie.Need-shared-slice-read-t12
 shared-slice-read-t12 c = search needs
@@ -25,7 +26,9 @@ shared-slice-read-t12-2 c = search needs
 
 returns-2 : tie.Need-returns-2
 unfolding byWords
-returns-2 c = simp (eq-eqb _ _ (c .before .before .before .before .before .if1 .left)) (rw (c .before .before .before .is-repair .ensures, c .before .before .is-repair2 .ensures) refl)
+returns-2 c =
+    simp (eq-eqb (magicOf (c .before .before .before .before .before .before .before .before .args .count .bits)) 0x56 (omega arith))
+    (rw (c .before .before .before .is-repair .ensures, c .before .before .is-repair2 .ensures) refl)
 
 pub by-words-spec : {M : Type 1} → statement M
 by-words-spec =

@@ -1,6 +1,8 @@
 -- `is_writable` meets its contract: each test decides one part of `isWritable`.
 -- Assumes nothing.
 use mathlib.Core.Path.{_∙_, sym}
+use Prim.Native.Nat.{_^_}
+use native.Mathlib.Omega.{arith}
 use borrow.Author.Tests.{lt-ltb, le-ltb}
 use Rattle.spare.specs.Writing.{isWritable}
 use borrow.Author.Needs.{needs}
@@ -12,11 +14,11 @@ is-tag-requires c κs = search needs
 
 returns : tie.Need-returns
 unfolding isWritable
-returns c = simp (sym (c .before .before .is-tag .ensures) ∙ c .before .if1 .taken, lt-ltb _ _ (c .if2 .taken))
+returns c = simp (sym (c .before .before .is-tag .ensures) ∙ c .before .if1 .taken, lt-ltb (c .before .before .before .args .path) (2 ^ 26) (omega arith))
 
 returns-2 : tie.Need-returns-2
 unfolding isWritable
-returns-2 c = simp (sym (c .before .before .is-tag .ensures) ∙ c .before .if1 .taken, le-ltb _ _ (c .if2 .left))
+returns-2 c = simp (sym (c .before .before .is-tag .ensures) ∙ c .before .if1 .taken, le-ltb (c .before .before .before .args .path) (2 ^ 26) (omega arith))
 
 returns-3 : tie.Need-returns-3
 unfolding isWritable

@@ -1,13 +1,13 @@
 -- `nearest_tag` meets its contract: no tag before i is near the byte.
 -- Assumes nothing.
 use mathlib.Core.Path.{_≡_, refl}
-use Prim.Native.Nat.{_≤_, _-_}
+use Prim.Native.Nat.{_<_, _≤_, _-_}
 use native.Mathlib.Numerals.{add-one}
 use native.Mathlib.Omega.{arith}
 use borrow.Author.Tests.{le-leb, lt-leb}
 use borrow.Author.Needs.{needs}
-use lib.ListN.{drop}
-use Rattle.spare.specs.Tags.{nearest, tags}
+use lib.ListN.{drop, getD}
+use Rattle.spare.specs.Tags.{tags, distance, nearest}
 use Rattle.spare.proofs.Tagging.{nearest-next}
 use Rattle.spare.proofs.nearest_tag.Statement.{statement}
 use Rattle.spare.proofs.nearest_tag.Tie as tie
@@ -25,7 +25,11 @@ array-read-t : tie.Need-array-read-t Inv-loop μ-loop
 array-read-t c = search needs
 
 returns : tie.Need-returns Inv-loop μ-loop
-returns c = rw (c .before .before .loop .inv .1, nearest-next (c .before .before .before .args .byte) (c .before .before .loop .i) (search needs), le-leb _ _ (c .if1 .taken)) refl
+returns c =
+    let byte = c .before .before .before .args .byte in
+    let i = c .before .before .loop .i in
+    let near : distance (getD tags i 0) byte ≤ 1 = omega arith in
+    rw (c .before .before .loop .inv .1, nearest-next byte i (search needs), le-leb _ _ near) refl
 
 add-i : tie.Need-add-i Inv-loop μ-loop
 add-i c = search needs
@@ -34,7 +38,11 @@ loop-less : tie.Need-loop-less Inv-loop μ-loop
 loop-less c = search needs
 
 loop-again : tie.Need-loop-again Inv-loop μ-loop
-loop-again c = (search needs, rw (c .before .before .loop .inv .1, nearest-next (c .before .before .before .args .byte) (c .before .before .loop .i) (search needs), lt-leb _ _ (c .if1 .left), add-one) refl)
+loop-again c =
+    let byte = c .before .before .before .args .byte in
+    let i = c .before .before .loop .i in
+    let far : 1 < distance (getD tags i 0) byte = omega arith in
+    (search needs, rw (c .before .before .loop .inv .1, nearest-next byte i (search needs), lt-leb _ _ far, add-one) refl)
 
 returns-2 : tie.Need-returns-2 Inv-loop μ-loop
 unfolding nearest
