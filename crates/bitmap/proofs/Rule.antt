@@ -1,4 +1,4 @@
--- Laws of the update rule: its bits, a byte's four entries at once, and which bitmaps it newEqualsOld.
+-- Laws of the update rule: its bits, a byte's four entries at once, and which bitmaps it keeps.
 -- Assumes nothing.
 use mathlib.Core.Bool.{Bool, false, cond, _&&_}
 use mathlib.Core.List.{List, [], _∷_}

@@ -2,7 +2,7 @@
 -- Assumes nothing.
 use mathlib.Core.Bool.{true}
 use mathlib.Core.List.{List}
-use mathlib.Core.Path.{_≡_, ap}
+use mathlib.Core.Path.{_≡_, ap, _∙_}
 use Prim.Native.Nat.{ℕ}
 use borrow.Author.Tests.{eq-eqb, lt-ltb}
 use lib.Dec.{eqb, ltb}
@@ -39,4 +39,8 @@ unfolding tableAnswer tableAfter
 read-bridged n chip r e = record {
   answers = λ room h. rw e (ap (toldReading chip) (region-reads r n e room h));
   bitmaps = λ room h. ap (λ (x : Reading). roomBy x room) (region-reads r n e room h);
+  settled =
+      λ p m t s room h.
+      let read = region-reads r n e room h ∙ s in
+      (rw e (ap (toldReading chip) read), ap (λ (x : Reading). roomBy x room) read);
 }

@@ -4,11 +4,14 @@ use mathlib.Core.List.{List}
 use mathlib.Core.Path.{_≡_}
 use Prim.Native.Nat.{ℕ}
 use lib.ListN.{length}
-use Rattle.bbt.specs.Plans.{reading}
+use Rattle.bbt.specs.Copies.{Table}
+use Rattle.bbt.specs.Plans.{reading, holds}
 use Rattle.bbt.specs.Regions.{Region, view}
+use Rattle.bbt.specs.Told.{chipBlock}
 use Rattle.chip.specs.Large.{chipOf, bitmapBytes}
 use Rattle.chip.specs.declared.ChipAnswer.the-variants.{Chip}
 use Rattle.chip.specs.declared.LargeChip.{LargeChip}
+use Rattle.region.specs.declared.TableAnswer.the-variants.{Read}
 use Rattle.region.specs.Tables.{toldReading, roomBy, tableAnswer, tableAfter}
 
 pub record ReadBridge (n : ℕ) (chip : LargeChip) (r : Region chip) : Type 0 where
@@ -16,6 +19,10 @@ pub record ReadBridge (n : ℕ) (chip : LargeChip) (r : Region chip) : Type 0 wh
   pub answers : (room : List ℕ) → length room ≡ bitmapBytes chip → tableAnswer n (r .image) (r .status) room ≡ toldReading chip (reading chip (view r))
   -- its bitmap in the lent room, which is as it was beside a refusal
   pub bitmaps : (room : List ℕ) → length room ≡ bitmapBytes chip → tableAfter n (r .image) (r .status) room ≡ roomBy (reading chip (view r)) room
+  -- so of a settled pair the answer is its version and blocks, and the room holds its bitmap
+  pub settled : (p m : ℕ) (t : Table) → reading chip (view r) ≡ holds p m t → (room : List ℕ) → length room ≡ bitmapBytes chip
+      → (tableAnswer n (r .image) (r .status) room ≡ Read (t .version) (chipBlock chip p) (chipBlock chip m))
+      × (tableAfter n (r .image) (r .status) room ≡ t .bitmap)
 
 abbrev pub ReadBridged : Type 0
 ReadBridged = (n : ℕ) (chip : LargeChip) (r : Region chip) → chipOf n ≡ Chip chip → ReadBridge n chip r

@@ -6,10 +6,10 @@ use Rattle.bitmap.proofs.mark_entry.Statement.{statement}
 use Rattle.bitmap.proofs.mark_entry.Tie as tie
 
 returns : tie.Need-returns
-returns c = (simp (eq-eqb _ _ (c .if1 .taken)), search needs)
+returns c = (simp (eq-eqb _ 0 (c .if1 .taken)), search needs)
 
 returns-2 : tie.Need-returns-2
-returns-2 c = (simp (ne-eqb _ _ (c .if1 .left)), search needs)
+returns-2 c = (simp (ne-eqb _ 0 (c .if1 .left)), search needs)
 
 pub mark-entry-spec : {M : Type 1} → statement M
 mark-entry-spec = tie.close (tie.spec returns returns-2)

@@ -41,21 +41,23 @@ returns-3 c = simp (ne-eqb _ _ (c .before .before .before .before .before .befor
 returns-4 : tie.Need-returns-4
 unfolding oobAnswer
 returns-4 c =
+    let a = c .before .before .before .before .before .before .before .before .before .before .args in
     simp (
       ne-eqb _ _ (c .before .before .before .before .before .before .before .before .if1 .left),
       eq-eqb _ _ (c .before .before .before .before .before .if2 .left),
       lt-ltb _ _ (c .before .before .if3 .left),
-      le-ltb _ _ (c .if4 .taken),
+      le-ltb (a .page) (a .extent .pages) (omega arith),
     )
 
 returns-5 : tie.Need-returns-5
 unfolding oobAnswer
 returns-5 c =
+    let a = c .before .before .before .before .before .before .before .before .before .before .args in
     simp (
       ne-eqb _ _ (c .before .before .before .before .before .before .before .before .if1 .left),
       eq-eqb _ _ (c .before .before .before .before .before .if2 .left),
       lt-ltb _ _ (c .before .before .if3 .left),
-      lt-ltb _ _ (c .if4 .left),
+      lt-ltb (a .page) (a .extent .pages) (omega arith),
     )
 
 pub oob-answer-spec : {M : Type 1} → statement M
