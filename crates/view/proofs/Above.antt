@@ -81,7 +81,7 @@ values κs r = (r .answer, (r .part, tt))
 abbrev machine : (κs : Lfts 1) → Oob → Vals
 machine κs r = spelled (P κs .parts) (P′ κs) (values κs r)
 
--- what `View::oob` ensures: what is told of both fields
+-- what `View::oob` ensures, which is what is told of both fields
 abbrev pub Both : Extent → RefT (List ℕ) → ℕ → ℕ → Oob → Type 0
 Both e s b p r = (r .answer ≡ oobAnswer e (length (now s)) b p) × OobOf e s b p (r .part)
 
@@ -113,7 +113,7 @@ function Q k = record {
 abbrev stayed : (Q : Question) → Stays (above Q .signature .params) (above Q .kept)
 stayed Q = (stay-none (λ _. u64) yes, (stay-none-slice (0 ∷ []) tt (plain (λ _. u8)) yes, (stay-none (λ _. R.the-row) yes, (stay-none (λ _. u8) yes, tt))))
 
--- what a function's own proof shows: of what both fields are told follows what the function ensures of its field
+-- what a function's own proof shows: from what is told of both fields follows what the function ensures of its own
 module _ {M : Type 1} (𝓤 : URA M) (Q : Question) (k : ℕ) (F : Field Q k) (c : Clauses 𝓤 (above Q)) where
   abbrev pub Shown : Type 1
   Shown =

@@ -1,5 +1,5 @@
--- What can be asked of an extent, an image, a block and a page: the answer, and the part. Region has a function for each, on plain parameters, and so has the view, which makes
--- a view of N and an image for it. Their signatures, their contracts, and what the walks share.
+-- What can be asked of an extent, an image, a block and a page: the answer, and the part. For each there is region's function, on plain parameters, which `View::oob` calls,
+-- and the one above the view, which makes a view and asks it. Their signatures, the contract of region's, and what the walks share.
 -- Assumes nothing.
 use mathlib.Core.Path.{_≡_, refl}
 use Prim.Native.Nat.{ℕ, _<_, _^_}
