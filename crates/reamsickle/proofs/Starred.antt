@@ -11,9 +11,14 @@ use Rattle.bits.specs.Bytes.{wordBytes}
 use Rattle.chip.specs.Boot.{pathOf}
 use Rattle.ecc.specs.Half.{placeBit, counts, parity, codeBit, codeFrom}
 use Rattle.hamming.specs.Word.{notPowers, houseNumbers, checkBit, checkBits, encoded}
-use Rattle.reamsickle.specs.Examples.{Holds, path, count, All, table}
-use Rattle.spare.specs.Tags.{nearest}
+use Rattle.reamsickle.specs.Examples.{Holds, path, count, no-tag, All, table}
+use Rattle.spare.specs.Reading.{spareAnswer}
+use Rattle.spare.specs.Tags.{tags, nearest}
 use Rattle.spare.specs.Writing.{spareOf, magicAndCount}
+use Rattle.spare.specs.declared.NearestTag.the-variants.{Missing}
+use Rattle.reamsickle.specs.Boundary.{spareCode}
+use borrow.Author.Tests.{eq-eqb}
+use lib.ListN.{length}
 
 path-bytes : (p : ℕ) (bytes : List ℕ) → wordBytes (encoded p) ≡ bytes → Holds (path p bytes)
 unfolding spareOf
@@ -23,7 +28,12 @@ count-bytes : (c : ℕ) (bytes : List ℕ) → wordBytes (encoded (magicAndCount
 unfolding spareOf
 count-bytes c bytes e page t p = e
 
+no-tag-refused : (b : ℕ) → nearest tags b ≡ Missing → Holds (no-tag b 4)
+unfolding spareCode spareAnswer
+no-tag-refused b e s fields long lf good at =
+    rw (eq-eqb (length fields) 11 lf, eq-eqb (length s) 16 long, good, at, e) refl
+
 pub starred : All table
 unfolding recoverCase signedOf difference bothCase compared bit number parityOf ones onesIn pathOf placeBit counts parity codeBit codeFrom notPowers houseNumbers checkBit checkBits encoded nearest
 starred =
-    (refl, (refl, (refl, (refl, (path-bytes 0 _ refl, (path-bytes 1 _ refl, (refl, (path-bytes 6 _ refl, (count-bytes 1 _ refl, (refl, (refl, (refl, (refl, (refl, (refl, ((λ chip R x y p m. refl), tt))))))))))))))))
+    (refl, (refl, (refl, (refl, (path-bytes 0 _ refl, (path-bytes 1 _ refl, (refl, (path-bytes 6 _ refl, (count-bytes 1 _ refl, (refl, (refl, (no-tag-refused 0x55 refl, (refl, (refl, (refl, ((λ chip R x y p m. refl), tt))))))))))))))))

@@ -3,7 +3,7 @@ use mathlib.Core.List.{List, [], _∷_}
 use mathlib.Core.Path.{_≡_}
 use Prim.Native.Nat.{ℕ}
 use lib.IntN.{ℤ, pos}
-use lib.ListN.{getD, replicate, set, take}
+use lib.ListN.{length, getD, replicate, set, take}
 use Rattle.bbt.specs.Copies.{Table}
 use Rattle.bbt.specs.Entries.{entryOf}
 use Rattle.bbt.specs.Pages.{View}
@@ -16,9 +16,10 @@ use Rattle.chip.specs.declared.Refusal.the-variants.{Opposite}
 use Rattle.ecc.specs.Half.{codeOf}
 use Rattle.spare.specs.Tags.{tags, nearest}
 use Rattle.spare.specs.Writing.{spareOf}
-use Rattle.spare.specs.declared.NearestTag.{NearestTag}
-use Rattle.spare.specs.declared.NearestTag.the-variants.{Found, Missing}
-use Rattle.reamsickle.specs.Boundary.{codeBytes}
+use Rattle.spare.specs.Status.{statusOf}
+use Rattle.spare.specs.declared.NearestTag.the-variants.{Found}
+use Rattle.spare.specs.declared.Status.the-variants.{Good}
+use Rattle.reamsickle.specs.Boundary.{codeBytes, spareCode}
 
 -- what is given, and what comes of it
 pub data Example : Type 0 where
@@ -31,7 +32,9 @@ pub data Example : Type 0 where
   -- a count, and bytes 6, 7, 11, 12 of the spare
   count : ℕ → List ℕ → Example
   -- a stored tag byte, and the tag it stands for
-  tag : ℕ → NearestTag → Example
+  tag : ℕ → ℕ → Example
+  -- a stored tag byte that stands for none, and the refusal of a spare with it
+  no-tag : ℕ → ℕ → Example
   -- a byte of a bitmap, and the entries of its four blocks
   entries : ℕ → List ℕ → Example
   -- the versions of primary and mirror, and their d
@@ -48,13 +51,14 @@ fourEntries bitmap = entryOf bitmap 0 ∷ entryOf bitmap 1 ∷ entryOf bitmap 2 
 abbrev pub versioned : ℕ → List ℕ → Table
 versioned v bitmap = record { version = v; bitmap = bitmap }
 
--- an example holds; of a path or a count whatever else is written with it, of two versions whatever the bitmaps and the blocks
+-- an example holds; of a path or a count whatever else is written with it, of a tag that is none whatever else a spare of a good block holds, of two versions whatever the bitmaps and the blocks
 abbrev pub Holds : Example → Type 0
 Holds (half bytes code) = codeBytes (codeOf bytes) ≡ code
 Holds (boot number generation p) = pathOf number generation ≡ Path p
 Holds (path p bytes) = (page : List ℕ) (t c : ℕ) → take 4 (spareOf page t p c) ≡ bytes
 Holds (count c bytes) = (page : List ℕ) (t p : ℕ) → countBytes (spareOf page t p c) ≡ bytes
-Holds (tag b t) = nearest tags b ≡ t
+Holds (tag b t) = nearest tags b ≡ Found t
+Holds (no-tag b refusal) = (s fields : List ℕ) → length s ≡ 16 → length fields ≡ 11 → statusOf (getD s 5 0) ≡ Good → getD s 4 0 ≡ b → spareCode s fields ≡ refusal
 Holds (entries byte es) = fourEntries (byte ∷ []) ≡ es
 Holds (versions p m d) = difference p m ≡ d
 Holds (opposite v w) = (chip : LargeChip) (R : View) (x y : List ℕ) (p m : ℕ) → recoverCase chip R (compared (versioned v x) (versioned w y) p m) ≡ refuse Opposite
@@ -74,9 +78,9 @@ table =
     ∷ boot 1 2 6
     ∷ path 6 (0x00 ∷ 0x00 ∷ 0x01 ∷ 0xA3 ∷ [])
     ∷ count 1 (0x56 ∷ 0x00 ∷ 0x00 ∷ 0x62 ∷ [])
-    ∷ tag 0x07 (Found 0x06)
-    ∷ tag 0x00 (Found 0x01)
-    ∷ tag 0x55 Missing
+    ∷ tag 0x07 0x06
+    ∷ tag 0x00 0x01
+    ∷ no-tag 0x55 4
     ∷ entries 0x27 (3 ∷ 1 ∷ 2 ∷ 0 ∷ [])
     ∷ versions 0 255 (pos 1)
     ∷ versions 128 127 (pos 1)
