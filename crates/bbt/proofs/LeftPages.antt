@@ -28,7 +28,6 @@ pub record Judged (chip : LargeChip) : Type 0 where
   pub some-page : 0 < pagesOf chip
   pub fours : chip .blocks % 4 ≡ 0
   pub within : chip .region ≤ chip .blocks
-  pub four : chip .region ≡ 4
 
 pub judge : (n : ℕ) (chip : LargeChip) → chipOf n ≡ Chip chip → Judged chip
 judge n chip e =
@@ -38,7 +37,6 @@ judge n chip e =
       some-page = v .some-page;
       fours = ap (λ (m : ℕ). m % 4) (v .blocks) ∙ v .fours;
       within = omega (arith, v .blocks, v .region, v .least);
-      four = v .region;
     }
 
 -- ---- the two kinds of a copy

@@ -114,7 +114,7 @@ module _ {chip : LargeChip} (ok : Judged chip) where
 
 pub starts-anywhere : StartsAnywhere
 starts-anywhere n chip e = record {
-  there = λ t h p m hp hm ne. settle ok t h p m (omega (arith, ok .four)) (omega (arith, ok .four)) ne;
+  there = settle ok;
   starts = λ r t h. settled-at h;
 }
   where

@@ -1,4 +1,4 @@
--- Demand 3 is about every N and every table: for each of them there is a settled pair, in any two of the region's four blocks, and every
+-- Demand 3 is about every N and every table: for each of them there is a settled pair, in any two of the region's blocks, and every
 -- settled pair is a start.
 use mathlib.Core.Logic.{_≢_}
 use mathlib.Core.Path.{_≡_}
@@ -20,7 +20,7 @@ pub record AnyTable (chip : LargeChip) (t : Table) : Type 0 where
 
 pub record EverySettled (chip : LargeChip) : Type 0 where
   -- the primary in block p, the mirror in block m
-  pub there : (t : Table) → AnyTable chip t → (p m : ℕ) → p < 4 → m < 4 → p ≢ m → (r : Region chip) × (reading chip (view r) ≡ holds p m t)
+  pub there : (t : Table) → AnyTable chip t → (p m : ℕ) → p < chip .region → m < chip .region → p ≢ m → (r : Region chip) × (reading chip (view r) ≡ holds p m t)
   -- any settled image, no plan in hand; old is the start's
   pub starts : (r : Region chip) (t : Table) → Settled r t → Start (world r empty (one-table t))
 

@@ -1,7 +1,7 @@
 -- The bridge to C: each part of what a driver finds is a law of `Found`; the blocks of a settled pair are below N.
 -- Assumes nothing.
 use mathlib.Core.List.{List}
-use mathlib.Core.Path.{_≡_, sym, ap, _∙_, subst}
+use mathlib.Core.Path.{_≡_, ap, _∙_, subst}
 use Prim.Native.Nat.{ℕ, _+_, _*_, _/_, _%_, _<_, _≤_}
 use native.Mathlib.Omega.{arith}
 use lib.ListN.{length, drop}
@@ -10,10 +10,10 @@ use Rattle.bbt.proofs.Raw.{chip-valid}
 use Rattle.bbt.specs.Copies.{Table}
 use Rattle.bbt.specs.Histories.{snapshot, answer}
 use Rattle.bbt.specs.Images.{Imaged}
-use Rattle.bbt.specs.Plans.{Plan, stepsOf, Answer, plan, Call, Reading, holds, reading}
+use Rattle.bbt.specs.Plans.{Plan, Answer, plan, Call, Reading, holds, reading}
 use Rattle.bbt.specs.Regions.{Region, view}
 use Rattle.bbt.specs.Told.{chipBlock, toldPlan, toldSteps}
-use Rattle.chip.specs.Large.{bitmapBytes, pagesOf}
+use Rattle.chip.specs.Large.{bitmapBytes}
 use Rattle.chip.specs.declared.LargeChip.{LargeChip}
 use Rattle.plan.specs.Answers.{toldAnswer}
 use Rattle.plan.specs.PageImages.{imageAnswerBy, imageAfterBy}
@@ -22,8 +22,8 @@ use Rattle.region.specs.Tables.{toldReading, roomBy}
 use Rattle.region.specs.declared.TableAnswer.{TableAnswer}
 use Rattle.reamsickle.specs.LargeBoundary.{tableCodeBy, stepsPut, planCodeBy, stepsPutBy, imageCodeBy}
 use Rattle.claims.specs.Blocks.{TableBelow}
-use Rattle.claims.specs.Driver.{versionIn, primaryIn, mirrorIn, stepByte, stepsTold, readTold}
-use Rattle.claims.specs.Found.{PlanFound, TableFound, Finds, BridgeToC}
+use Rattle.claims.specs.Driver.{versionIn, primaryIn, mirrorIn, stepByte, readTold}
+use Rattle.claims.specs.Found.{PlanFound, TableFound, BridgeToC}
 use Rattle.claims.proofs.Blocks.{blocks-below}
 use Rattle.claims.proofs.Found.{step-byte, as-many, plan-told, steps-told, plan-answered, version-told, count-told, filled, page-answered, page-filled, read-told, bitmap-told, code-read, read-answered, table-told}
 
