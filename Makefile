@@ -99,8 +99,8 @@ host-test: $(host)/host_test $(host)/host_test_sanitized $(host)/histories $(hos
 	$(host)/host_test_sanitized
 	$(host)/histories
 	$(host)/histories_sanitized
-	host/test_ream.sh $(host)/ream
-	host/test_ream.sh $(host)/ream_sanitized
+	host/ream/test_ream.sh $(host)/ream
+	host/ream/test_ream.sh $(host)/ream_sanitized
 
 soak: $(host)/histories
 	$(host)/histories $(SEED) $(HISTORIES)

@@ -2,20 +2,20 @@
 # The test of the tool, ream: every command with good and with wrong input; its exit status, what it says and what it
 # writes. A failed run must leave no file.
 #
-#	host/test_ream.sh PROGRAM
+#	host/ream/test_ream.sh PROGRAM
 set -u
 LC_ALL=C
 export LC_ALL
 
 if [ $# -ne 1 ] || ! [ -x "$1" ]; then
-	echo "usage: host/test_ream.sh PROGRAM" >&2
+	echo "usage: host/ream/test_ream.sh PROGRAM" >&2
 	exit 2
 fi
 case $1 in
 /*) ream=$1 ;;
 *) ream=$PWD/$1 ;;
 esac
-manual=$(cd "$(dirname "$0")/.." && pwd)/man/ream.1
+manual=$(cd "$(dirname "$0")/../.." && pwd)/man/ream.1
 work=$(mktemp -d) || exit 2
 trap 'rm -rf "$work"' EXIT
 cd "$work" || exit 2
