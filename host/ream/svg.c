@@ -284,14 +284,16 @@ static void draw_result(FILE *stream, const struct row *row, const struct layout
 	draw_text(stream, layout->results, y + 27, "small", story_reason(row->result));
 }
 
-static void draw_row(FILE *stream, const struct row *row, size_t number, const struct layout *layout, unsigned y)
+static void draw_row(FILE *stream, const struct story *story, size_t number, const struct layout *layout, unsigned y)
 {
-	char label[LOOK_LEN];
+	const struct row *row = &story->row[number];
+	char label[LOOK_LEN], words[EVENT_LEN];
 
 	draw_ground(stream, row, layout, y);
 	snprintf(label, sizeof(label), "%zu", number);
+	story_event(story, row, words);
 	draw_text(stream, MARGIN + NUMBERS - 8, y + 21, "number", label);
-	draw_text(stream, MARGIN + NUMBERS, y + 21, event_kind(row->event), row->text);
+	draw_text(stream, MARGIN + NUMBERS, y + 21, event_kind(row->event), words);
 	for (unsigned block = 0; block < REGION_BLOCKS; block++)
 		draw_pages(stream, row, block, layout, y + 5);
 	draw_table(stream, layout->table, y + 5, row->settled, row->version);
@@ -313,7 +315,7 @@ bool svg_fill(FILE *stream, const void *from)
 	fprintf(stream, "<rect width=\"%u\" height=\"%u\" fill=\"#fff\"/>\n", layout.width, layout.height);
 	draw_head(stream, story, &layout);
 	for (size_t i = 0; i < story->rows; i++)
-		draw_row(stream, &story->row[i], i, &layout, ROWS + (unsigned)i * ROW);
+		draw_row(stream, story, i, &layout, ROWS + (unsigned)i * ROW);
 	fputs("</svg>\n", stream);
 	return true;
 }

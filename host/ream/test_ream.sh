@@ -49,6 +49,25 @@ expect() { # STATUS WORDS ARGUMENTS..
 		check "ream $*: expected: $words" grep -qF -e "$words" out
 		check "ream $*: expected nothing on standard error" [ ! -s err ]
 	fi
+	check "ream $*: expected lines of at most 80 columns" fits out
+}
+
+fits() { # FILE: no line is longer than 80 columns
+	! grep -q '.\{81\}' "$1"
+}
+
+# The same, with a warning on the standard error.
+expect_warned() { # STATUS WARNING WORDS ARGUMENTS..
+	status=$1
+	warning=$2
+	words=$3
+	shift 3
+	"$ream" "$@" >out 2>err
+	got=$?
+	check "ream $*: exit status $got, expected $status" [ "$got" -eq "$status" ]
+	check "ream $*: expected: $words" grep -qF -e "$words" out
+	check "ream $*: expected the warning: $warning" grep -qF -e "$warning" err
+	check "ream $*: expected no complaint but warnings" [ -z "$(grep -v '^ream: warning: ' err)" ]
 }
 
 # The same, and OUT is not written.
@@ -61,6 +80,10 @@ expect_none() { # OUT STATUS WORDS ARGUMENTS..
 
 says() { # WORDS: the last run said this too
 	check "expected besides: $1" grep -qF -e "$1" out
+}
+
+says_not() { # WORDS: the last run did not say this
+	check "not expected: $1" [ -z "$(grep -F -e "$1" out)" ]
 }
 
 # ---- pages and dumps
@@ -98,13 +121,16 @@ poke differing 0 '\376'
 # ---- pair
 
 expect 0 "pair: settled, version 5, primary in block 12, mirror in block 15" pair $chip settled
-says "chip: 16 blocks; a copy of the table fills 1 page; dump of the last four blocks"
+says "chip: 16 blocks (told), 1 page a block (told)"
+says "dump: the last four blocks; a copy of the table fills 1 page"
+says "pages: all 4 that count read well (assumed)"
 says "block 13: erased"
 says "block 14: bad"
 says "entries: 16 good, 0 reserved, 0 late, 0 factory"
-sed 1d out >four_blocks
-expect 0 "dump of the whole chip" pair --pages-per-block 1 whole
-sed 1d out >whole_chip
+sed 1,2d out >four_blocks
+expect 0 "dump: the whole chip" pair --pages-per-block 1 whole
+says "chip: 16 blocks (by the dump's size), 1 page a block (told)"
+sed 1,2d out >whole_chip
 check "a dump of the whole chip and one of its last four blocks agree" cmp four_blocks whole_chip
 expect 0 "version 5" pair --pages-per-block 1 --blocks=16 -- whole
 
@@ -115,11 +141,19 @@ says "recovery: refused, 8"
 expect 1 "pair: refused, 9: the versions of primary and mirror are 128 apart" pair $chip opposite
 says "recovery: refused, 9"
 expect 1 "pair: refused, 10: the pair of tables is not settled" pair $chip newer
-says "recovery: would erase block 15 and write the mirror there, from the primary, version 6; 2 steps"
+says "recovery: would erase block 15 and write the mirror there"
+says "  from the primary, version 6; 2 steps"
 expect 1 "pair: refused, 10" pair $chip no_target
 says "recovery: refused, 11: there is no block to recover to"
 expect 1 "pair: refused, 10" pair $chip differing
-says "recovery: would merge both tables (AND) and write both copies, version 6; 4 steps"
+says "recovery: would merge both tables (AND) and write both copies"
+says "  version 6; 4 steps"
+says "  block 0: primary reserved, mirror good; merged reserved"
+cp differing differing_more
+poke differing_more 1 '\125'
+poke differing_more 6337 '\252'
+expect 1 "  blocks 4-7: primary late, mirror reserved; merged factory" pair $chip differing_more
+says "  block 0: primary reserved, mirror good; merged reserved"
 
 # a table of two pages: a copy is good only with both of one kind and version
 { primary 005; primary 006; mirror 005; blank; primary 005; mirror 005; bad; mirror 005; } >partly
@@ -150,7 +184,7 @@ says "entries: 12 good, 0 reserved, 4 late, 0 factory"
 says "  block 7: late"
 says "  blocks 9-11: late"
 expect 0 "update: nothing to do, the table keeps version 6" update $chip --mark-late 9 new
-says "block 9: late already, and stays so"
+says "  block 9: stays late"
 expect 0 "version 6" update --pages-per-block 1 --mark-late 7,9-11 --apply new_whole whole
 { ff 25344; cat new; } >expected
 check "an update of the whole chip's dump changes its last four blocks alike" cmp expected new_whole
@@ -164,7 +198,7 @@ done
 says "a recovery comes first (ream recover)"
 
 # an erase makes later pages of its block blank too, and no other block's
-{ primary 005; primary 005; blank; bad; bad; bad; mirror 005; bad; } >two_pages
+{ primary 005; copy abcd 005; blank; bad; bad; bad; mirror 005; bad; } >two_pages
 { primary 006; blank; blank; bad; bad; bad; mirror 006; blank; } >expected
 poke expected 1 '\367'
 poke expected 12673 '\367'
@@ -198,11 +232,11 @@ check "what is written reads well" cmp expected status_after
 
 # ---- wrong arguments and files
 
-for blocks in 0 4 10 32772 99999999999; do
-	expect 2 "--blocks $blocks: expected a multiple of 4 from 8 to 32768 (refusal 2: a number is outside its range)" \
+for blocks in 0 4 10 32772 99999999999 99999999999999999999999 -8; do
+	expect 2 "pair: --blocks $blocks: out of range, expected a multiple of 4 from 8 to 32768 (refusal 2: a number" \
 		pair --blocks "$blocks" settled
 done
-expect 2 "settled: has 4 blocks of 1 pages; expected a whole chip" pair --pages-per-block 1 settled
+expect 2 "settled: has 4 blocks of 1 page; expected a whole chip" pair --pages-per-block 1 settled
 expect 2 "settled: ends at offset 8448, inside block 0; expected whole blocks of 135168 bytes" pair settled
 expect 2 "settled: ends at offset 8448; expected 67584 bytes, all 16 blocks of 2 pages, or 16896 bytes, the last four" \
 	pair --blocks 16 --pages-per-block 2 settled
@@ -225,11 +259,15 @@ expect 2 "missing: cannot be read" pair $chip --status missing settled
 
 expect 2 "no command"
 expect 2 "pear: no such command" pear
-expect 2 "--block: no such option" pair --block 16 settled
+expect 0 "version 5" pair --block 16 --pages 1 settled
+expect 2 "--blocky: no such option" pair --blocky 16 settled
+expect 2 "--st: no such option" recover --st none settled
 expect 2 "-b: no such option" pair -b settled
+expect 2 "-8: no such option" pair -8 settled
 expect 2 "--blocks: expected a value after it" pair --blocks
-expect 2 "--blocks x: expected a number" pair --blocks x settled
-expect 2 "--pages-per-block 0: expected a number from 1 to 1024" pair --pages-per-block 0 settled
+expect 2 "--blocks x: expected a multiple of 4 from 8 to 32768" pair --blocks x settled
+expect 2 "--pages-per-block 0: out of range, expected a number from 1 to 1024" pair --pages-per-block 0 settled
+expect 2 "--pages-per-block -8: out of range, expected a number from 1 to 1024" pair --pages-per-block=-8 settled
 expect 2 "no file; expected DUMP" pair $chip
 expect 2 "one argument too many" pair $chip settled settled
 expect 2 "--force: takes no value" recover $chip --force=yes settled
@@ -238,7 +276,16 @@ expect 2 "expected --mark-late" update $chip settled
 for list in x '1,' ,1 1-x 3-1 1.5 -1; do
 	expect 2 "--mark-late" update $chip --mark-late "$list" settled
 done
-expect 2 "--mark-late 16: expected a block from 0 to 15 (refusal 2" update $chip --mark-late 3-16 settled
+expect 2 "--mark-late 5,: nothing stands after the last comma; expected blocks or ranges" \
+	update $chip --mark-late 5, settled
+expect 2 "--mark-late ,5: nothing stands before the first comma" update $chip --mark-late ,5 settled
+expect 2 "--mark-late 5,,6: nothing stands between two commas" update $chip --mark-late 5,,6 settled
+expect 2 "--mark-late 5,x6: cannot take \"x6\"" update $chip --mark-late 5,x6 settled
+expect 2 "--mark-late 9-7: 9-7 runs backwards" update $chip --mark-late 9-7 settled
+for list in 3-16 16 -8 99999999999999999999999 3-99999999999999999999999; do
+	expect 2 "--mark-late $list: $list is out of range, expected blocks from 0 to 15 (refusal 2" \
+		update $chip --mark-late "$list" settled
+done
 expect 2 "--status-out: expected --apply beside it" recover $chip --status-out none settled
 
 # ---- output files
@@ -282,7 +329,7 @@ spare='\000\000\001\243\001\377\126\000\377\377\377\000\142\377\377\377'
 expect 0 "path: 6, boot number 1, generation 2" page page
 says "status: FF, good"
 says "tag: 01, boot"
-says "count: 1 erases"
+check "one erase is one" grep -qx "count: 1 erase" out
 says "repairs: 0"
 mend() { # NAME OFFSET BYTE: a page with one byte changed, which is put right
 	cp page flawed
@@ -354,11 +401,11 @@ check "another seed gives another history" test -n "$(cmp first out 2>&1)"
 # what make run shows
 expect 0 "=> OLD table kept, v232: the cut update's new primary was not complete" simulate --seed 645 --events 13
 says "=> NEW table kept, v233: the cut update's new primary was complete"
-says "!CUT in step 1: write 1021 page 0"
+says "!CUT, step 1: page 0"
 
 # The old table has the version before the last update's, the new one its own.
 kept_as_told() {
-	awk '/ update to v/ { sub(/.*update to v/, ""); new = $0 + 0 }
+	awk '/ update: / { sub(/^v/, "", $NF); new = ($NF + 1) % 256 }
 		/=> OLD table/ { sub(/.*kept, v/, ""); if (($0 + 1) % 256 != new) exit 1 }
 		/=> NEW table/ { sub(/.*kept, v/, ""); if ($0 + 0 != new) exit 1 }' out
 }
@@ -372,8 +419,8 @@ done
 expect 0 "No good block is left to mark" simulate --blocks 8 --events 2000
 expect 2 "picture_8: is there already" simulate --svg picture_8
 expect_none none 2 "expected at most 1000 events for a picture" simulate --events 1001 --svg none
-expect_none none 2 "--events 0: expected a number from 1 to 100000" simulate --events 0 --svg none
-expect_none none 2 "--blocks 9: expected a multiple of 4" simulate --blocks 9 --dump none
+expect_none none 2 "--events 0: out of range, expected a number from 1 to 100000" simulate --events 0 --svg none
+expect_none none 2 "--blocks 9: out of range, expected a multiple of 4" simulate --blocks 9 --dump none
 expect_none none 2 "--pages-per-block 1: expected at least 4" \
 	simulate --blocks 32768 --pages-per-block 1 --dump none
 expect_none none 2 "one argument too many" simulate --svg none extra
