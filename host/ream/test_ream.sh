@@ -192,6 +192,36 @@ check "an update of the whole chip's dump changes its last four blocks alike" cm
 expect 0 "update: 4 steps, to version 0" update $chip --mark-late 1 --apply turned last_version
 expect 0 "version 0" pair $chip turned
 
+# marks add up, whether in a list or by several options, and each block is told
+expect 0 "  block 5: good -> late" update $chip --mark-late 5 --mark-late 6,2 --mark-late=0-1 --apply several_marks settled
+for block in 0 1 2 6; do
+	says "  block $block: good -> late"
+done
+expect 0 "entries: 11 good, 0 reserved, 5 late, 0 factory" pair $chip several_marks
+says "  blocks 0-2: late"
+says "  blocks 5-6: late"
+{ primary 005; blank; blank; mirror 005; } >kinds
+for copy_at in 0 6336; do
+	poke kinds $((copy_at + 2)) '\033'
+done
+expect 0 "update: 4 steps, to version 6" update $chip --mark-late 8-11,12 kinds
+says "  block 8: good -> late"
+says "  block 9: stays reserved"
+says "  block 10: stays late"
+says "  block 11: stays factory"
+says "  block 12: good -> late"
+says_not "block 13: "
+for option in "--blocks 16" "--pages-per-block 1" "--status status_well" "--apply none" "--status-out none_status" \
+	"--pages none_pages" "--force" "--json"; do
+	printf '\000\000\000\000' >status_well
+	expect_none none 2 "update: ${option%% *}: is given twice; expected it once" \
+		update $option $option --mark-late 5 settled
+done
+expect_none none 2 "page: --repaired: is given twice" page --repaired none --repaired none page
+expect_none none 2 "simulate: --seed: is given twice" simulate --seed 1 --dump none --seed=2
+many=$(awk 'BEGIN { for (i = 0; i < 257; i++) printf " --mark-late 5" }')
+expect 2 "--mark-late 5: is given more than 256 times; a list with commas takes more" update $chip $many settled
+
 for dump in no_copy:7 several:8 opposite:9 newer:10 no_target:10; do
 	expect_none none 1 "update: refused, ${dump#*:}:" update $chip --mark-late 1 --apply none "${dump%:*}"
 done
@@ -204,6 +234,70 @@ poke expected 1 '\367'
 poke expected 12673 '\367'
 expect 0 "version 6" update --blocks 16 --pages-per-block 2 --mark-late 5 --apply erased two_pages
 check "an erase makes every page of its block blank" cmp expected erased
+
+# ---- geometry
+
+# A chip of so many blocks, of the same number of pages a block as the tool assumes or of twice as many: a whole dump
+# or one of its last four blocks, with the copies in these blocks counted from the end.
+make_dump() { # BLOCKS PAGES PRIMARY MIRROR: with block 7 late
+	left=$1
+	while [ "$left" -gt 0 ]; do
+		case $left in
+		"$3") primary 005 >first ;;
+		"$4") mirror 005 >first ;;
+		*) blank >first ;;
+		esac
+		[ "$left" != "$3" ] && [ "$left" != "$4" ] || poke first 1 '\177'
+		cat first
+		ff $((($2 - 1) * 2112))
+		left=$((left - 1))
+	done
+}
+make_dump 16 128 1 2 >long_blocks
+expect_warned 0 "long_blocks: 64 pages a block are assumed, but every copy of the table stands where 128 pages a block" \
+	"chip: 32 blocks (by the dump's size), 64 pages a block (assumed)" pair long_blocks
+check "the warning tells the other chip" grep -qF -e "on a chip of 16 blocks; tell which by --pages-per-block" err
+expect 0 "pair: settled, version 5, primary in block 15, mirror in block 14" pair --pages-per-block 128 long_blocks
+expect 0 "chip: 32 blocks (by the dump's size), 64 pages a block (told)" pair --pages-per-block 64 long_blocks
+expect_warned 0 "64 pages a block are assumed" "update: 4 steps" update --mark-late 1 long_blocks
+expect_warned 0 "64 pages a block are assumed" "recover: nothing to do" recover long_blocks
+for places in "1 3" "2 3" "1 4" "3 4"; do
+	make_dump 16 128 $places >long_blocks
+	expect_warned 1 "carries a table's signature, where none can stand" "pair: refused" pair long_blocks
+	check "the warning names what fits" grep -qF -e "128 pages a block would fit (--pages-per-block 128)" err
+	expect 0 "pair: settled, version 5" pair --pages-per-block 128 long_blocks
+done
+make_dump 16 128 1 4 >long_blocks
+"$ream" pair long_blocks >out 2>err
+check "the warning names block, page and offset" grep -qF -e "block 24, page 0, at offset 3244032, carries" err
+make_dump 16 32 1 2 >short_blocks
+expect_warned 1 "32 pages a block would fit (--pages-per-block 32)" "chip: 8 blocks" pair short_blocks
+check "the warning names block, page and offset" grep -qF -e "block 7, page 32, at offset 1013760, carries" err
+make_dump 4 128 1 2 >long_region
+expect_warned 0 "128 pages a block have it too, in the last four blocks of a chip" "chip: 8 blocks" pair long_region
+expect 2 "the last four; --pages-per-block 128 would fit (refusal 1" pair --blocks 1024 long_region
+make_dump 16 64 1 2 >usual
+expect 0 "chip: 16 blocks (by the dump's size), 64 pages a block (assumed)" pair usual
+
+# the last four blocks of a chip of 4096 blocks, of which block 3001 is late, told to be of 8
+make_dump 4 64 1 2 >last_four
+for copy_at in 270336 405504; do
+	poke last_four $((copy_at + 750)) '\367'
+done
+expect 0 "  block 3001: late" pair --blocks 4096 last_four
+expect_warned 0 "last_four: block 6, page 0, at offset 271086, has F7 in byte 750, behind the bitmap of 8 blocks" \
+	"pair: settled, version 5" pair --blocks 8 last_four
+check "the warning tells how many blocks there are" grep -qF -e "a table of 3004 blocks or more has an entry there" err
+expect_warned 0 "behind the bitmap of 8 blocks, expected FF" "update: 4 steps" update --blocks 8 --mark-late 1 last_four
+expect_warned 0 "behind the bitmap of 3000 blocks" "version 5" pair --blocks 3000 last_four
+expect 0 "version 5" pair --blocks 3004 last_four
+# a page that cannot be read contradicts nothing
+expect 1 "pair: refused, 7" pair --blocks 8 --unreadable 6:0,7:0 last_four
+# copies of two pages, told to be of one
+{ primary 005; primary 005; blank; blank; blank; blank; mirror 005; mirror 005; } >long_copies
+expect 0 "version 5" pair --blocks 8196 --pages-per-block 2 long_copies
+expect_warned 0 "a chip of more blocks has longer copies (--blocks)" "version 5" \
+	pair --blocks 4096 --pages-per-block 2 long_copies
 
 # ---- recover
 
@@ -309,11 +403,45 @@ expect_none missing/none 2 "missing/none: cannot be written" recover $chip --app
 expect_none none 2 "missing/status: cannot be written" \
 	recover $chip --apply none --status-out missing/status newer
 expect_none none 2 "none: is named for two files" recover $chip --apply none --status-out none newer
+mkdir -p folder/within
+for other in ./none folder/../none "$PWD/none" folder/within/../../none; do
+	expect_none none 2 "$other: is named for two files to write, the other time as none" \
+		recover $chip --apply none --status-out "$other" newer
+done
+expect_none none 2 "is named for two files to write" simulate --dump none --status-out ./none
+expect_none none 2 "is named for two files to write" simulate --svg folder/none --status-out ./folder/none
+ln -s folder other_folder
+expect_none folder/none 2 "other_folder/none: is named for two files" \
+	recover $chip --apply folder/none --status-out other_folder/none newer
+echo precious >one_name
+ln one_name two_names
+expect 2 "two_names: is named for two files" recover $chip --apply one_name --status-out two_names --force newer
+check "a file under two names stays" grep -q precious one_name
+for other in ./input folder/../input "$PWD/input"; do
+	expect 2 "$other: is the file that is read, input" recover $chip --apply "$other" --force input
+done
+expect 2 "input: is the file that is read, ./input" recover $chip --apply input --force ./input
+expect 2 "input: is the file that is read, link" recover $chip --apply input --force link
+"$ream" recover $chip --apply input --force - <input >out 2>err
+check "the standard input is a file that is read" grep -qF -e "input: is the file that is read, standard input" err
+expect 2 "./status: is the file that is read" \
+	recover $chip --status status --apply none --status-out ./status --force settled
+check "the input is as it was" cmp settled input
+
+# nothing is told before the path of an output is refused
+for command in "recover $chip --apply there newer" "update $chip --mark-late 1 --apply missing/none settled" \
+	"recover $chip --apply none --status-out there newer" "simulate --svg there" "page --repaired there page"; do
+	{ ff 512; printf '\000\000\001\243\001\377\126\000\377\377\377\000\142\377\377\377'; } >page
+	"$ream" $command >out 2>err
+	check "ream $command: exit status 2" [ $? -eq 2 ]
+	check "ream $command: nothing is told before its output is refused" [ ! -s out ]
+	check "ream $command: says why" [ -s err ]
+done
 (
 	trap '' XFSZ
 	ulimit -f 4
 	"$ream" recover $chip --apply none newer >/dev/null 2>err_file
-	[ $? -eq 2 ] && grep -q "none: cannot be written\|the copy cannot be written" err_file
+	[ $? -eq 2 ] && grep -q "^ream: none: cannot be written.*: File too large" err_file
 )
 check "a file that cannot be written whole" [ $? -eq 0 ]
 check "a file that cannot be written whole is not there" [ ! -e none ]
