@@ -450,6 +450,42 @@ if [ -w /dev/full ]; then
 	check "standard output that cannot be written" [ $? -eq 2 ]
 fi
 
+# ---- signals, and how far it is
+
+# A run that waits in its output, with its files begun: it has more to say than a pipe holds that nobody reads.
+{ primary 005; primary 005; primary 005; primary 005; ff 16896; mirror 005; mirror 005; mirror 005; mirror 005; } >large
+mkfifo unread
+if command -v timeout >/dev/null; then
+	mkdir signals
+	for name in HUP INT TERM; do
+		exec 3<>unread
+		(sleep 0.5; find signals -mindepth 1 >seen) &
+		timeout -s $name 1 "$ream" update --blocks 32768 --pages-per-block 4 --mark-late 0-32767 \
+			--apply signals/out --status-out signals/status --pages signals/pages large >unread 2>err
+		ended=$?
+		wait
+		exec 3<&-
+		check "a run is ended by SIG$name: $ended" [ $ended -eq 124 ]
+		check "a run that waits has its files begun" [ "$(grep -c 'signals/.*\.......$' seen)" -eq 10 ]
+		check "SIG$name leaves no file" [ -z "$(find signals -mindepth 1)" ]
+	done
+fi
+
+# Only a terminal is told, and only from the second second on.
+slowly() { cat no_copy; sleep 1.2; ff 1; }
+slowly | "$ream" pair $chip - >out 2>err
+check "who is no terminal is not told how far it is" [ "$(wc -l <err)" -eq 1 ]
+check "a pipe's length is judged" grep -qF -e "standard input: ends at offset 8449; expected 33792 bytes" err
+if command -v script >/dev/null; then
+	cat >slow.sh <<-END
+		{ cat no_copy; sleep 1.2; printf x; } | "$ream" pair $chip - >slow.out
+		"$ream" pair $chip settled >slow.out
+	END
+	script -qec "sh slow.sh" /dev/null >told 2>&1 </dev/null
+	check "a terminal is told how far it is" grep -qF -e "ream: reading: 0 MB" told
+	check "a terminal is not told of what is done soon" [ "$(grep -c MB told)" -eq 1 ]
+fi
+
 # ---- page
 
 spare='\000\000\001\243\001\377\126\000\377\377\377\000\142\377\377\377'
