@@ -115,7 +115,7 @@ static void write_recovery(struct json *json, const struct finding *finding)
 	json_object(json, "recovery");
 	write_refusal(json, finding->recovery_refusal);
 	if (finding->recovery_refusal == REAM_OK)
-		steps_write(json, &finding->recovery, false);
+		steps_write(json, &finding->recovery, finding->dump.pages_per_block, false);
 	json_end(json);
 }
 

@@ -135,7 +135,7 @@ static void write_job(const struct job *job)
 			marks_write(&json, job->table.bitmap, job->plan.wanted, job->dump.region.n);
 		else
 			differ_write(&json, &job->dump.region);
-		steps_write(&json, &job->plan, job->applying.pages != NULL);
+		steps_write(&json, &job->plan, job->dump.pages_per_block, job->applying.pages != NULL);
 		write_after(&json, job);
 	}
 	json_end(&json);
@@ -148,7 +148,7 @@ static bool carry_out(struct job *job)
 {
 	if (!job->json) {
 		print_before(job);
-		steps_print(job->command, &job->plan, job->applying.pages != NULL);
+		steps_print(job->command, &job->plan, job->dump.pages_per_block, job->applying.pages != NULL);
 		fflush(stdout);
 	}
 	if (!apply_finish(&job->application))

@@ -117,6 +117,8 @@ chip="--blocks 16 --pages-per-block 1"
 { primary 005; bad; bad; bad; } >no_target
 { primary 005; blank; blank; mirror 005; } >differing
 poke differing 0 '\376'
+# the largest chip, of which each block has four pages in the dump
+{ primary 005; primary 005; primary 005; primary 005; ff 16896; mirror 005; mirror 005; mirror 005; mirror 005; } >large
 
 # ---- pair
 
@@ -172,8 +174,8 @@ says "block 8195: partly xM"
 # ---- update
 
 expect_none new 0 "update: 4 steps, to version 6" update $chip --mark-late 7,9-11 settled
-says "   0  erase     12     -"
-says "   1  write     12     0"
+says "   0  erase     12     -  0x000006000"
+says "   1  write     12     0  0x000006000"
 says "   2  erase     15     -"
 says "   3  write     15     0"
 expect 0 "pair: settled, version 6, primary in block 12, mirror in block 15" \
@@ -299,6 +301,65 @@ expect 0 "version 5" pair --blocks 8196 --pages-per-block 2 long_copies
 expect_warned 0 "a chip of more blocks has longer copies (--blocks)" "version 5" \
 	pair --blocks 4096 --pages-per-block 2 long_copies
 
+# ---- what Linux leaves
+
+one_line() { # the last run's notes, without their line breaks
+	tr '\n' ' ' <out | sed 's/  */ /g' >one_line
+}
+notes() { # WORDS: are among the notes
+	one_line
+	check "expected among the notes: $1" grep -qF -e "$1" one_line
+}
+notes_not() { # WORDS: are not
+	one_line
+	check "not expected among the notes: $1" [ -z "$(grep -F -e "$1" one_line)" ]
+}
+two="--blocks 8196 --pages-per-block 2"
+{ primary 005; blank; blank; blank; blank; blank; mirror 005; blank; } >by_linux
+expect 1 "pair: refused, 7" pair $two by_linux
+for block in 8192 8195; do
+	notes "note: block $block is a copy with its header on page 0 only, as Linux writes it above 8,192 blocks. The library"
+done
+{ primary 005; primary 005; blank; blank; blank; blank; mirror 005; blank; } >cut_or_linux
+expect 1 "pair: refused, 10" pair $two cut_or_linux
+notes "block 8195 is a copy with its header on page 0 only, as Linux writes it above 8,192 blocks, and as a power cut after"
+notes_not "block 8192 is a copy"
+poke cut_or_linux 14784 '\177'
+expect 1 "pair: refused, 10" pair $two cut_or_linux
+notes "block 8195 is a copy with its header on page 0 only, as Linux writes it above 8,192 blocks. The library"
+expect 1 "pair: refused, 10" pair $two --unreadable 8195:1 cut_or_linux
+notes_not "as Linux writes it"
+expect 1 "pair: refused, 10" pair $chip newer
+notes_not "Linux"
+
+# entries: reserved and none late, in no table block
+{ primary 005; blank; blank; mirror 005; } >worn
+for copy_at in 0 6336; do
+	poke worn $((copy_at + 1)) '\276'
+done
+expect 0 "entries: 14 good, 2 reserved, 0 late, 0 factory" pair $chip worn
+notes "note: 2 entries are reserved (10) and none late (01), as in a table that Linux writes"
+notes "If Linux has written this chip, reserved means worn (docs/LINUX.md)"
+expect 0 "update: 4 steps" update $chip --mark-late 0-1 --apply worn_marked worn
+expect 0 "2 reserved, 2 late" pair $chip worn_marked
+notes_not "Linux"
+{ primary 005; blank; blank; mirror 005; } >held
+for copy_at in 0 6336; do
+	poke held $((copy_at + 3)) '\252'
+done
+expect 0 "entries: 12 good, 4 reserved" pair $chip held
+notes_not "Linux"
+
+# a table's block that went bad under Linux: its signature is there, and 0 in OOB 0
+{ primary 005; primary 006; blank; mirror 006; } >given_up
+poke given_up 2048 '\000'
+expect 1 "pair: refused, 8" pair $chip given_up
+notes "note: block 12 carries a signature and 0 in OOB 0, as Linux leaves a table's block that went bad."
+notes_not "block 13 carries"
+dd if=/dev/zero of=given_up bs=1 seek=2048 count=64 conv=notrunc 2>/dev/null
+expect 0 "pair: settled, version 6, primary in block 13, mirror in block 15" pair $chip given_up
+says "block 12: bad"
+
 # ---- recover
 
 expect 0 "recover: nothing to do, the table keeps version 5" recover $chip --apply same settled
@@ -323,6 +384,58 @@ expect 0 "status file written: status_after" \
 expect 0 "version 5" pair $chip --status status_after after
 printf '\000\000\000\000' >expected
 check "what is written reads well" cmp expected status_after
+
+# pages that could not be read, by name
+"$ream" pair $chip --status status settled >by_file
+expect 1 "pair: refused, 10" pair $chip --unreadable 15:0 settled
+check "a page named is as in a status file" cmp by_file out
+says "pages: of the 4 that count 1 unreadable (told)"
+expect 1 "pair: refused, 7" pair $chip --unreadable 12:0,15:0 settled
+expect 1 "pair: refused, 7" pair $chip --unreadable 12:0 --unreadable=15:0 settled
+expect 1 "pair: refused, 7" pair $chip --status status --unreadable 12:0 settled
+expect 0 "status file written: status_named" \
+	recover $chip --unreadable 15:0,13:0 --apply named --status-out status_named settled
+printf '\000\001\000\000' >expected
+check "what is not written stays unreadable" cmp expected status_named
+expect 1 "block 8195: partly xM" pair --blocks 8196 --pages-per-block 2 --unreadable 8195:0 partly
+for page in 11:0 16:0 5:0 -1:0 99999999999999999999999:0; do
+	expect 2 "--unreadable $page: $page is out of range, expected one of the last four blocks, 12 to 15 (refusal 2" \
+		pair $chip --unreadable "$page" settled
+done
+for page in 15:1 15:-1; do
+	expect 2 "--unreadable $page: $page is out of range, expected a page from 0 to 0, as only these count (refusal 2" \
+		pair $chip --unreadable "$page" settled
+done
+expect 2 "--unreadable 15: 15 has no page; expected BLOCK:PAGE with commas" pair $chip --unreadable 15 settled
+expect 2 "--unreadable 15:0,: nothing stands after the last comma" pair $chip --unreadable 15:0, settled
+expect 2 "--unreadable 15:x: cannot take \"15:x\"" pair $chip --unreadable 15:x settled
+
+# ---- the pages of a plan
+
+expect 0 "     1  write     12     0  0x000006000  step-01-block-12-page-0.bin" update $chip --mark-late 5 --pages images settled
+says "     3  write     15     0  0x000007800  step-03-block-15-page-0.bin"
+says "page written: images/step-01-block-12-page-0.bin"
+check "a file for each page, in the plan's order" \
+	[ "$(ls images | tr '\n' ' ')" = "step-01-block-12-page-0.bin step-03-block-15-page-0.bin " ]
+primary 006 >expected
+poke expected 1 '\367'
+check "a page is as the plan writes it" cmp expected images/step-01-block-12-page-0.bin
+expect 2 "images/step-01-block-12-page-0.bin: is there already" update $chip --mark-late 5 --pages images settled
+expect 0 "page written: images/" update $chip --mark-late 5 --pages images --force settled
+expect 2 "is no page of this plan; expected a folder without others" recover $chip --pages images --force newer
+expect_none none 2 "settled: is there and is no folder" recover $chip --apply none --pages settled newer
+expect_none missing 2 "missing/none: cannot be made" recover $chip --pages missing/none newer
+expect_none none 2 "none: is there and is no regular file" recover $chip --apply none --pages none newer
+expect_none none 0 "recover: nothing to do" recover $chip --pages none settled
+expect_none none 1 "recover: refused, 7" recover $chip --pages none no_copy
+mkdir empty_folder
+expect 0 "page written: empty_folder/step-01-block-15-page-0.bin" recover $chip --pages empty_folder newer
+expect 0 "update: 10 steps" update --blocks 32768 --pages-per-block 4 --mark-late 0,32767 --pages all --apply all_applied large
+says "   9  write  32767     3  0x00ffff800"
+check "all pages of the longest plan" [ "$(ls all | wc -l)" -eq 8 ]
+cat all/step-0[1-4]* >expected
+dd if=all_applied bs=8448 count=1 of=found 2>/dev/null
+check "the pages in their names' order are the copy" cmp expected found
 
 # ---- wrong arguments and files
 
@@ -381,6 +494,45 @@ for list in 3-16 16 -8 99999999999999999999999 3-99999999999999999999999; do
 		update $chip --mark-late "$list" settled
 done
 expect 2 "--status-out: expected --apply beside it" recover $chip --status-out none settled
+
+# ---- pipes
+
+piped() { # STATUS WORDS FILE ARGUMENTS..: as expect, from a pipe
+	status=$1
+	words=$2
+	file=$3
+	shift 3
+	cat "$file" | "$ream" "$@" >out 2>err
+	check "$file | ream $*: exit status" [ $? -eq "$status" ]
+	check "$file | ream $*: expected: $words" grep -qF -e "$words" out err
+}
+"$ream" pair $chip newer >by_name
+piped 1 "pair: refused, 10" newer pair $chip -
+check "a pipe's dump is read as a file's" cmp by_name out
+piped 0 "pair: settled, version 5" settled pair $chip -
+piped 0 "dump: the whole chip" whole pair --pages-per-block 1 -
+rm -f piped_out
+piped 0 "dump written: piped_out" newer recover $chip --apply piped_out -
+check "a pipe's dump is recovered as a file's" cmp recovered piped_out
+piped 0 "update: 4 steps" settled update $chip --mark-late 5 -
+piped 2 "standard input: ends at offset 8447" short pair $chip -
+piped 1 "block 15: unreadable" status pair $chip --status - settled
+"$ream" pair $chip - <settled >out 2>err
+check "the standard input may be a file" grep -qF -e "pair: settled" out
+mkfifo pipe
+cat settled >pipe &
+expect 0 "pair: settled" pair $chip pipe
+wait
+expect 2 "-: is named for two files to read" pair $chip --status - -
+"$ream" pair $chip - </dev/null >out 2>err
+check "the standard input has to be a file or a pipe" grep -qF -e "standard input: expected a regular file or a pipe" err
+(
+	trap '' XFSZ
+	ulimit -f 4
+	cat settled | "$ream" pair $chip - >/dev/null 2>err_file
+	[ $? -eq 2 ] && grep -q "^ream: standard input: cannot be kept in .*, at offset .*: File too large" err_file
+)
+check "a pipe that cannot be kept" [ $? -eq 0 ]
 
 # ---- output files
 
@@ -453,7 +605,6 @@ fi
 # ---- signals, and how far it is
 
 # A run that waits in its output, with its files begun: it has more to say than a pipe holds that nobody reads.
-{ primary 005; primary 005; primary 005; primary 005; ff 16896; mirror 005; mirror 005; mirror 005; mirror 005; } >large
 mkfifo unread
 if command -v timeout >/dev/null; then
 	mkdir signals
@@ -554,6 +705,85 @@ expect 2 "short_page: ends at offset 527, expected 528 bytes, 512 of data and 16
 expect 2 "page: is the file that is read" page --repaired page --force page
 expect 2 "missing: cannot be read" page missing
 
+piped 0 "path: 6, boot number 1, generation 2" page page -
+
+# ---- JSON
+
+# A run with --json, and what Python says of the value d that it gives.
+json() { # STATUS ARGUMENTS..
+	status=$1
+	shift
+	"$ream" "$@" --json >out 2>err
+	check "ream $* --json: exit status" [ $? -eq "$status" ]
+	check "ream $* --json: valid" python3 -m json.tool out
+	check "ream $* --json: nothing on standard error" [ ! -s err ]
+}
+has() { # EXPRESSION..: each holds
+	for expression in "$@"; do
+		check "expected in JSON: $expression" \
+			python3 -c "import json, sys; d = json.load(open('out')); sys.exit(0 if $expression else 1)"
+	done
+}
+if command -v python3 >/dev/null && python3 -c 'import json' 2>/dev/null; then
+	json 0 pair $chip kinds
+	has "d['command'] == 'pair'" "d['chip'] == {'blocks': 16, 'blocks_told': True, 'pages_per_block': 1,
+		'pages_per_block_told': True, 'table_pages': 1}" "d['dump']['whole_chip'] is False" \
+		"d['dump']['size'] == 8448" "d['dump']['status_told'] is False" "d['dump']['unreadable'] == []" \
+		"d['settled'] is True" "d['refusal'] is None" "d['version'] == 5" "d['primary'] == 12" "d['mirror'] == 15" \
+		"d['entries'] == {'good': 13, 'reserved': 1, 'late': 1, 'factory': 1}" \
+		"d['not_good'][0] == {'first': 9, 'last': 9, 'entry': 'reserved'}" "len(d['not_good']) == 3" \
+		"[b['holds'] for b in d['region']] == ['primary', 'erased', 'erased', 'mirror']" \
+		"d['region'][0] == {'block': 12, 'holds': 'primary', 'version': 5, 'pages': 'P'}" "d['warnings'] == []"
+	json 1 pair $chip --unreadable 13:0 newer
+	has "d['settled'] is False" "d['refusal']['number'] == 10" "'not settled' in d['refusal']['text']" \
+		"d['dump']['unreadable'] == [{'block': 13, 'page': 0}]" "d['recovery']['version'] == 6" \
+		"d['recovery']['steps'] == [{'step': 0, 'does': 'erase', 'block': 15, 'address': 30720},
+			{'step': 1, 'does': 'write', 'block': 15, 'page': 0, 'address': 30720}]"
+	json 1 pair $chip no_copy
+	has "d['refusal']['number'] == 7" "d['recovery']['refusal']['number'] == 7" "'steps' not in d['recovery']"
+	json 1 pair $chip differing_more
+	has "d['differing'][1] == {'first': 4, 'last': 7, 'primary': 'late', 'mirror': 'reserved', 'merged': 'factory'}"
+	json 0 update $chip --mark-late 8-10 kinds
+	has "d['command'] == 'update'" "d['marks'] == [{'block': 8, 'from': 'good', 'to': 'late'},
+		{'block': 9, 'from': 'reserved', 'to': 'reserved'}, {'block': 10, 'from': 'late', 'to': 'late'}]" \
+		"d['version'] == 6" "[s['does'] for s in d['steps']] == ['erase', 'write', 'erase', 'write']" \
+		"d['written'] == []" "d['after'] == {'version': 6, 'primary': 12, 'mirror': 15}"
+	json 1 update $chip --mark-late 8 newer
+	has "d['refusal']['number'] == 10" "'steps' not in d"
+	json 0 recover $chip --apply 'new "quoted\' --pages json_pages newer
+	has "d['command'] == 'recover'" "d['steps'][1]['file'] == 'step-01-block-15-page-0.bin'" \
+		"d['written'][0] == {'what': 'dump', 'path': 'new \"quoted\\\\'}" \
+		"d['written'][1] == {'what': 'page', 'path': 'json_pages/step-01-block-15-page-0.bin'}"
+	check "what is told in JSON is written" cmp recovered 'new "quoted\'
+	json 1 recover $chip no_target
+	has "d['refusal']['number'] == 11"
+	odd=$(printf 'odd\377\n\303\251')
+	cp settled "$odd"
+	json 0 pair $chip "$odd"
+	has "d['dump']['name'] == 'odd\ufffd\n\u00e9'"
+	json 0 page page
+	has "d['command'] == 'page'" "d['status'] == 255" "d['tag'] == 1" "d['tag_name'] == 'boot'" "d['path'] == 6" \
+		"d['boot_number'] == 1" "d['generation'] == 2" "d['count'] == 1" "d['repairs'] == 0" "d['repaired'] == []"
+	cp page flawed
+	poke flawed 0 '\376'
+	poke flawed 516 '\003'
+	rm -f mended
+	json 0 page --repaired mended flawed
+	has "d['repairs'] == 2" "d['repaired'] == ['tag', 'first half']" "d['written'][0]['path'] == 'mended'"
+	json 0 page data_page
+	has "'boot_number' not in d"
+	json 1 page --repaired none counted
+	has "d['refusal']['number'] == 2" "d['count'] == 262143"
+	json 1 page erased_page
+	has "d['refusal']['number'] == 5" "d['detail'] == 'the page is erased, all FF'"
+	# wrong arguments and warnings stay on the standard error
+	"$ream" pair $chip --json missing >out 2>err
+	check "nothing but JSON is on the standard output" [ ! -s out ]
+	"$ream" pair --blocks 8 --json last_four >out 2>err
+	check "a warning is on the standard error" grep -q "^ream: warning: last_four: block 6" err
+	has "d['warnings'][0].startswith('last_four: block 6, page 0, at offset 271086, has F7 in byte 750')"
+fi
+
 # ---- simulate
 
 expect 0 "judged after every event: no rule broken" simulate
@@ -589,6 +819,11 @@ expect_none none 2 "--pages-per-block 1: expected at least 4" \
 	simulate --blocks 32768 --pages-per-block 1 --dump none
 expect_none none 2 "one argument too many" simulate --svg none extra
 
+expect 0 "3 events: 1 update planned, 1 power cut, 0 recoveries planned" simulate --seed 6 --events 3 --stop
+expect 0 "1 event: 1 update planned, 0 power cuts, 0 recoveries planned" simulate --events 1 --stop
+expect 0 "1 recovery planned" simulate --seed 6 --events 3
+expect 0 "no rule broken" simulate --blocks 32768 --events 3000 --seed 18446744073709551615
+expect 2 "--seed -8: out of range, expected a number from 0 to 18446744073709551615" simulate --seed -8
 # What a history leaves where it stops can be recovered, and then updated.
 for seed in 1 2 3 4 5 6 7 8 9 10 11 12; do
 	blocks=$((seed % 4 * 8192 + 8192))
@@ -612,8 +847,17 @@ done
 for command in pair update recover page simulate; do
 	expect 0 "usage: ream $command" $command --help
 	expect 0 "usage: ream $command" $command --help --nonsense
+	expect 0 "usage: ream $command" $command -h
+	expect 0 "usage: ream $command" help $command
+	"$ream" $command --help | grep -o '^  --[a-z-]*' | sort -u >told
+	while read -r option; do
+		check "the manual tells of $option of $command" grep -qF -e "$(echo "$option" | sed 's/-/\\-/g')" "$manual"
+	done <told
 done
 expect 0 "usage: ream COMMAND" --help
+expect 0 "usage: ream COMMAND" -h
+expect 0 "usage: ream COMMAND" help
+expect 2 "pear: no such command" help pear
 expect 0 "ream 1.0" --version
 
 check "no temporary file is left" test -z "$(find . -name '*.??????')"
