@@ -130,28 +130,51 @@ static void complain_of_option(const struct syntax *syntax, int given, const cha
 		complain("%s: %s: no such option (ream %s --help)", syntax->command, option, syntax->command);
 }
 
+/* The option that getopt_long() took, as it was given. Its value, if it is an argument of its own, stands last. */
+static const char *as_given(char **argv)
+{
+	return optarg && optarg == argv[optind - 1] ? argv[optind - 2] : argv[optind - 1];
+}
+
+/* Was it named in full? */
+static bool in_full(const struct argument *argument, const char *given)
+{
+	const size_t len = strlen(argument->name);
+
+	return strncmp(given + 2, argument->name, len) == 0 && (given[2 + len] == '\0' || given[2 + len] == '=');
+}
+
+/* Takes the option of argument i, as getopt_long() found it. */
+static bool take_option(const struct syntax *syntax, unsigned i, const char *given, bool *before)
+{
+	const struct argument *argument = &syntax->argument[i];
+
+	if (!in_full(argument, given)) {
+		complain("%s: %s: no such option; --%s has to be named in full", syntax->command, given, argument->name);
+		return false;
+	}
+	if (*before && !argument->texts) {
+		complain("%s: --%s: is given twice; expected it once", syntax->command, argument->name);
+		return false;
+	}
+	*before = true;
+	return take_value(syntax, argument, optarg);
+}
+
 static bool take_options(const struct syntax *syntax, int argc, char **argv, bool *help)
 {
 	struct option options[MOST_ARGUMENTS + 2];
-	bool given[MOST_ARGUMENTS] = { false };
+	bool before[MOST_ARGUMENTS] = { false };
 	int found;
 
 	make_options(syntax, options);
 	opterr = 0;
 	while ((found = getopt_long(argc, argv, ":h", options, NULL)) != -1 && found != HELP) {
-		const int i = found - FIRST;
-
 		if (found == ':' || found == '?') {
 			complain_of_option(syntax, found, argv[optind - 1]);
 			return false;
 		}
-		if (given[i] && !syntax->argument[i].texts) {
-			complain("%s: --%s: is given twice; expected it once", syntax->command,
-				 syntax->argument[i].name);
-			return false;
-		}
-		given[i] = true;
-		if (!take_value(syntax, &syntax->argument[i], optarg))
+		if (!take_option(syntax, (unsigned)(found - FIRST), as_given(argv), &before[found - FIRST]))
 			return false;
 	}
 	*help = found == HELP;

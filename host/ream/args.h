@@ -1,8 +1,8 @@
 /*
  * The arguments of a command: options, each with two dashes before its name and its value after it ("--seed 7"
- * or "--seed=7"), and at most one file. "--" ends the options. The C library's getopt_long() takes them apart, so
- * a name may be shortened as long as it is that of one option alone. An option is given once, unless it gathers
- * all its values.
+ * or "--seed=7"), and at most one file. "--" ends the options. The C library's getopt_long() takes them apart;
+ * shortened names, which it would take, are refused, as they can turn into other options' when one is added. An
+ * option is given once, unless it gathers all its values.
  */
 #ifndef ARGS_H
 #define ARGS_H

@@ -466,7 +466,11 @@ expect 2 "missing: cannot be read" pair $chip --status missing settled
 
 expect 2 "no command"
 expect 2 "pear: no such command" pear
-expect 0 "version 5" pair --block 16 --pages 1 settled
+expect 2 "--block: no such option; --blocks has to be named in full" pair --block 16 settled
+expect 2 "--block=16: no such option; --blocks has to be named in full" pair --block=16 settled
+expect_none 64 2 "--page: no such option" recover --page 64 settled
+expect 2 "--pages: no such option; --pages-per-block has to be named in full" pair --pages 64 settled
+expect 2 "--forc: no such option; --force has to be named in full" recover $chip --forc settled
 expect 2 "--blocky: no such option" pair --blocky 16 settled
 expect 2 "--st: no such option" recover --st none settled
 expect 2 "-b: no such option" pair -b settled
