@@ -814,6 +814,18 @@ for blocks in 8 8192 8196 16388 24580 32768; do
 	check "the picture is whole" grep -q "^</svg>" "picture_$blocks"
 	check "a cut is drawn" grep -q 'class="cut">CUT' "picture_$blocks"
 done
+# the heads stand again every 40 rows; the bolt of a cut ends left of a number of four digits, 7 wide each
+expect 0 "no rule broken" simulate --events 85 --stop --svg picture_long
+check "the heads of the columns stand three times" [ "$(grep -c 'event, from top to bottom' picture_long)" -eq 3 ]
+expect 0 "no rule broken" simulate --events 39 --stop --svg picture_short
+check "the heads of the columns stand once" [ "$(grep -c 'event, from top to bottom' picture_short)" -eq 1 ]
+clear_of_numbers() {
+	awk -F '"' '/<path transform/ { split($2, at, /[( ]/); bolt = at[2] }
+		/class="number">[0-9]/ { number = $2 } END { exit !(bolt > 0 && bolt + 14 <= number - 4 * 7) }' picture_long
+}
+check "the bolt is clear of the numbers" clear_of_numbers
+check "the legend is right within a plan too" \
+	grep -qF -e "otherwise: the plan goes on, or after a cut a recovery is planned" picture_long
 expect 0 "No good block is left to mark" simulate --blocks 8 --events 2000
 expect 2 "picture_8: is there already" simulate --svg picture_8
 expect_none none 2 "expected at most 1000 events for a picture" simulate --events 1001 --svg none
