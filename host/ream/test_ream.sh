@@ -15,7 +15,8 @@ case $1 in
 /*) ream=$1 ;;
 *) ream=$PWD/$1 ;;
 esac
-manual=$(cd "$(dirname "$0")/../.." && pwd)/man/ream.1
+root=$(cd "$(dirname "$0")/../.." && pwd)
+manual=$root/man/ream.1
 work=$(mktemp -d) || exit 2
 trap 'rm -rf "$work"' EXIT
 cd "$work" || exit 2
@@ -320,6 +321,16 @@ expect 1 "pair: refused, 7" pair $two by_linux
 for block in 8192 8195; do
 	notes "note: block $block is a copy with its header on page 0 only, as Linux writes it above 8,192 blocks. The library"
 done
+# the commands of docs/LINUX.md, as printed
+mkdir linux
+{ ff $((3 * 64 * 2112)); mirror 005; ff $((63 * 2112)); } >linux/dump.bin
+sed -n '/^    cp dump/,/^$/s/^    //p' "$root/docs/LINUX.md" >linux/headers.sh
+sed -n '/^    block=3$/,/^$/s/^    //p' "$root/docs/LINUX.md" >linux/given_up.sh
+expect 1 "block 8195: partly M-" pair --blocks 8196 linux/dump.bin
+check "headers are brought back" sh -c 'cd linux && sh -e ./headers.sh'
+expect 1 "block 8195: mirror v5" pair --blocks 8196 linux/copy.bin
+check "a block is lent as bad" sh -c 'cd linux && sh -e ./given_up.sh'
+expect 1 "block 8195: bad" pair --blocks 8196 linux/copy.bin
 { primary 005; primary 005; blank; blank; blank; blank; mirror 005; blank; } >cut_or_linux
 expect 1 "pair: refused, 10" pair $two cut_or_linux
 notes "block 8195 is a copy with its header on page 0 only, as Linux writes it above 8,192 blocks, and as a power cut after"
@@ -814,6 +825,8 @@ for blocks in 8 8192 8196 16388 24580 32768; do
 	check "the picture is whole" grep -q "^</svg>" "picture_$blocks"
 	check "a cut is drawn" grep -q 'class="cut">CUT' "picture_$blocks"
 done
+expect 0 "picture written: picture_645" simulate --seed 645 --events 13 --svg picture_645
+check "the picture in docs is what make run draws" cmp "$root/docs/power-cuts.svg" picture_645
 # the heads stand again every 40 rows; the bolt of a cut ends left of a number of four digits, 7 wide each
 expect 0 "no rule broken" simulate --events 85 --stop --svg picture_long
 check "the heads of the columns stand three times" [ "$(grep -c 'event, from top to bottom' picture_long)" -eq 3 ]
