@@ -734,10 +734,10 @@ json() { # STATUS ARGUMENTS..
 	check "ream $* --json: nothing on standard error" [ ! -s err ]
 }
 has() { # EXPRESSION..: each holds
-	for expression in "$@"; do
-		check "expected in JSON: $expression" \
-			python3 -c "import json, sys; d = json.load(open('out')); sys.exit(0 if $expression else 1)"
-	done
+	check "expected in JSON: $*" python3 -c '
+import json, sys
+d = json.load(open("out"))
+sys.exit(0 if all(eval(expression) for expression in sys.argv[1:]) else 1)' "$@"
 }
 if command -v python3 >/dev/null && python3 -c 'import json' 2>/dev/null; then
 	json 0 pair $chip kinds
