@@ -905,6 +905,21 @@ while read -r line; do
 	check "an example of the manual, which says what is wrong: $line" [ ! -s err ]
 done <examples
 
+# The plan that the manual prints, and its commands for a chip as far as the parsers of mtd-utils go: on no device.
+plain() { sed "s/\\\\-/-/g; s/\\\\(aq/'/g; s/\\\\e\$/\\\\/"; }
+{ ff $((2 * 64 * 2112)); primary 005; ff $((63 * 2112)); mirror 005; ff $((63 * 2112)); } >region.bin
+sed -n '/^update: 4 steps/,/^\.EE/p' "$manual" | sed '/^\.EE/d' | plain >printed
+expect 0 "update: 4 steps" update --blocks 1024 --mark-late 17 --pages steps region.bin
+sed -n '/^update: 4 steps/,/^ *3 /p' out >found
+check "the manual prints the plan as it is" cmp printed found
+sed -n '/^# [fn]/,/[^e]$/p' "$manual" | plain | sed 's|^# ||; s|/dev/mtd0|no_chip|' >chip_commands
+check "the manual has the commands for a chip" [ "$(grep -c '^nanddump\|^flash_erase\|^nandwrite' chip_commands)" -eq 5 ]
+if command -v nanddump >/dev/null && command -v flash_erase >/dev/null && command -v nandwrite >/dev/null; then
+	sh ./chip_commands >out 2>&1
+	check "mtd-utils take the commands' options" [ -z "$(grep -i 'usage\|unrecognized\|invalid\|parse\|--help' out)" ]
+	check "mtd-utils come as far as the chip" [ "$(grep -c 'error!' out)" -ge 5 ]
+fi
+
 if [ $failures -ne 0 ]; then
 	echo "test_ream: $failures of $checks checks failed" >&2
 	exit 1
