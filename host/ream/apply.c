@@ -7,14 +7,19 @@
 #include <string.h>
 
 #include "progress.h"
+#include "status.h"
 #include "tool.h"
+
+/* So much is copied at a time, and so much before it is sent to the disk, that what is told of the progress is
+ * true. */
+enum { CHUNK = 32 * PAGE_BYTES, SENT = 512 * CHUNK };
 
 /* Copies the dump as it is. */
 static bool copy_as_it_is(FILE *stream, const struct copy *copy)
 {
 	const struct input *from = &copy->dump->input;
 	struct progress progress = progress_begin("copying", from->size, NULL);
-	uint8_t bytes[32 * PAGE_BYTES];
+	uint8_t bytes[CHUNK];
 	bool copied = true;
 
 	for (uint64_t done = 0; done < from->size && copied;) {
@@ -23,6 +28,8 @@ static bool copy_as_it_is(FILE *stream, const struct copy *copy)
 
 		copied = input_read(from, done, bytes, len) && output_put(stream, copy->path, done, bytes, len);
 		done += len;
+		if (done % SENT == 0)
+			output_sync(stream);
 		progress_at(&progress, done);
 	}
 	progress_end(&progress);
@@ -65,7 +72,7 @@ bool apply_begin(struct application *application, const struct applying *applyin
 	plan_carry_out(plan, &application->after);
 	outputs->count = 0;
 	outputs_add(outputs, (struct output){ "dump", applying->out, fill_copy, &application->copy });
-	outputs_add(outputs, (struct output){ "status file", applying->status_out, dump_fill_status,
+	outputs_add(outputs, (struct output){ "status file", applying->status_out, status_fill,
 					      &application->after });
 	if (!pages_begin(&application->pages, applying->pages, plan, outputs))
 		return false;

@@ -4,8 +4,8 @@
 #include <inttypes.h>
 #include <string.h>
 
-#include "list.h"
 #include "reamsickle.h"
+#include "status.h"
 #include "tool.h"
 
 /* ---- options */
@@ -124,65 +124,6 @@ static bool read_pages(struct dump *dump)
 	return true;
 }
 
-static bool read_status(struct dump *dump, const char *path)
-{
-	struct region *region = &dump->region;
-	const size_t len = region_status_len(region);
-
-	if (!input_read_whole(path, region->status, len,
-			      "one for each of the first P pages of the last four blocks", &dump->read[dump->reads++]))
-		return false;
-	for (size_t i = 0; i < len; i++) {
-		if (region->status[i] == REAM_READ_WELL || region->status[i] == REAM_UNREADABLE)
-			continue;
-		complain("%s: offset %zu has %02X, expected 00 (read well) or 01 (unreadable) (%s)", path, i,
-			 region->status[i], REFUSED_RANGE);
-		return false;
-	}
-	return true;
-}
-
-/* Takes one page of a list as unreadable. */
-static bool mark_unreadable(struct region *region, const struct list *list, const struct item *item)
-{
-	const uint64_t first = region->n - REGION_BLOCKS;
-
-	if (!item->two) {
-		complain("%s %s: %.*s has no page; expected %s", list->option, list->text, item->len, item->text,
-			 list->expected);
-		return false;
-	}
-	if (item->first.outside || item->first.value < first || item->first.value >= region->n) {
-		complain("%s %s: %.*s is out of range, expected one of the last four blocks, %" PRIu64 " to %" PRIu64
-			 " (%s)",
-			 list->option, list->text, item->len, item->text, first, region->n - 1, REFUSED_RANGE);
-		return false;
-	}
-	if (item->second.outside || item->second.value >= region->pages) {
-		complain("%s %s: %.*s is out of range, expected a page from 0 to %u, as only these count (%s)",
-			 list->option, list->text, item->len, item->text, region->pages - 1, REFUSED_RANGE);
-		return false;
-	}
-	*region_status(region, (unsigned)(item->first.value - first), (unsigned)item->second.value) = REAM_UNREADABLE;
-	return true;
-}
-
-static bool take_unreadable(struct region *region, const struct texts *lists)
-{
-	for (unsigned i = 0; i < lists->count; i++) {
-		struct list list = list_begin("--unreadable", lists->text[i],
-					      "BLOCK:PAGE with commas, as in 1022:0,1023:0", ':');
-		struct item item;
-
-		while (list_next(&list, &item))
-			if (!mark_unreadable(region, &list, &item))
-				return false;
-		if (list.rest)
-			return false;
-	}
-	return true;
-}
-
 /* ---- the whole */
 
 /* Reads what counts of a dump that is open. */
@@ -193,8 +134,9 @@ static bool read_open(struct dump *dump, const struct shape *shape)
 	if (!measure(dump, shape, &n))
 		return false;
 	region_begin(&dump->region, n);
-	return read_pages(dump) && (!shape->status || read_status(dump, shape->status)) &&
-	       take_unreadable(&dump->region, &shape->unreadable);
+	return read_pages(dump) &&
+	       (!shape->status || status_read(&dump->region, shape->status, &dump->read[dump->reads++])) &&
+	       status_take_unreadable(&dump->region, &shape->unreadable);
 }
 
 bool dump_read(struct dump *dump, const char *path, const struct shape *shape)
@@ -228,15 +170,6 @@ uint64_t dump_offset(const struct dump *dump, unsigned block, unsigned page)
 
 /* ---- telling */
 
-static unsigned count_unreadable(const struct region *region)
-{
-	unsigned count = 0;
-
-	for (size_t i = 0; i < region_status_len(region); i++)
-		count += region->status[i] == REAM_UNREADABLE;
-	return count;
-}
-
 void dump_print(const struct dump *dump)
 {
 	const struct region *region = &dump->region;
@@ -248,25 +181,9 @@ void dump_print(const struct dump *dump)
 	printf("dump: %s; a copy of the table fills %u page%s\n",
 	       dump->whole ? "the whole chip" : "the last four blocks", region->pages, plural(region->pages));
 	if (dump->status_told)
-		printf("pages: of the %u that count %u unreadable (told)\n", counting, count_unreadable(region));
+		printf("pages: of the %u that count %u unreadable (told)\n", counting, status_count(region));
 	else
 		printf("pages: all %u that count read well (assumed)\n", counting);
-}
-
-static void write_unreadable(struct json *json, const struct region *region)
-{
-	json_list(json, "unreadable");
-	for (unsigned block = 0; block < REGION_BLOCKS; block++) {
-		for (unsigned page = 0; page < region->pages; page++) {
-			if (region_reads_well(region, block, page))
-				continue;
-			json_object(json, NULL);
-			json_number(json, "block", region->n - REGION_BLOCKS + block);
-			json_number(json, "page", page);
-			json_end(json);
-		}
-	}
-	json_end(json);
 }
 
 void dump_write(struct json *json, const struct dump *dump)
@@ -283,7 +200,7 @@ void dump_write(struct json *json, const struct dump *dump)
 	json_number(json, "size", dump->input.size);
 	json_truth(json, "whole_chip", dump->whole);
 	json_truth(json, "status_told", dump->status_told);
-	write_unreadable(json, &dump->region);
+	status_write(json, &dump->region);
 	json_end(json);
 }
 
@@ -300,13 +217,5 @@ bool dump_fill(FILE *stream, const void *from)
 		for (unsigned page = 0; page < dump->pages_per_block; page++)
 			fwrite(page < region->pages ? region_page(region, block, page) : blank, 1, PAGE_BYTES,
 			       stream);
-	return true;
-}
-
-bool dump_fill_status(FILE *stream, const void *from)
-{
-	const struct region *region = from;
-
-	fwrite(region->status, 1, region_status_len(region), stream);
 	return true;
 }

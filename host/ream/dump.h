@@ -82,7 +82,4 @@ void dump_write(struct json *json, const struct dump *dump);
  * a struct dump, of which pages_per_block and region count. */
 bool dump_fill(FILE *stream, const void *dump);
 
-/* Writes a status file. For struct output: from a struct region. */
-bool dump_fill_status(FILE *stream, const void *region);
-
 #endif

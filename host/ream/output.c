@@ -21,6 +21,12 @@ bool output_put(FILE *stream, const char *path, uint64_t offset, const uint8_t *
 	return false;
 }
 
+void output_sync(FILE *stream)
+{
+	if (fflush(stream) == 0)
+		fsync(fileno(stream));
+}
+
 void outputs_add(struct outputs *outputs, struct output output)
 {
 	if (!output.path)

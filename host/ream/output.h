@@ -48,6 +48,9 @@ void outputs_drop(struct outputs *outputs);
 void outputs_print(const struct outputs *outputs);
 void outputs_write(struct json *json, const struct outputs *outputs);
 
+/* Has what is written so far on its way to the disk, so that the end does not wait for all of it. */
+void output_sync(FILE *stream);
+
 /* Puts bytes at an offset of a file that is being written; `path` is what it will be called. */
 bool output_put(FILE *stream, const char *path, uint64_t offset, const uint8_t *bytes, size_t len);
 

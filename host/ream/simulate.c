@@ -6,6 +6,7 @@
 #include "args.h"
 #include "dump.h"
 #include "output.h"
+#include "status.h"
 #include "story.h"
 #include "svg.h"
 #include "timeline.h"
@@ -89,7 +90,7 @@ static enum exit_status tell(const struct order *order, struct story *story, str
 
 	outputs_add(&outputs, (struct output){ "picture", order->svg, svg_fill, story });
 	outputs_add(&outputs, (struct output){ "dump", order->dump, dump_fill, dump });
-	outputs_add(&outputs, (struct output){ "status file", order->status_out, dump_fill_status, &story->region });
+	outputs_add(&outputs, (struct output){ "status file", order->status_out, status_fill, &story->region });
 	if (!outputs_begin(&outputs, NULL, 0, order->force))
 		return EXIT_WRONG;
 	if (!run(order, story, row)) {

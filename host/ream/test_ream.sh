@@ -380,6 +380,7 @@ says "   0  erase     15     -"
 says "pair: settled, version 6, primary in block 12, mirror in block 15"
 expect 0 "pair: settled, version 6, primary in block 12, mirror in block 15" pair $chip recovered
 expect 0 "recover: 4 steps, to version 6" recover $chip --apply merged differing
+says "  block 0: primary reserved, mirror good; merged reserved"
 expect 0 "block 0: reserved" pair $chip merged
 for dump in no_copy:7 several:8 opposite:9 no_target:11; do
 	expect_none none 1 "recover: refused, ${dump#*:}:" recover $chip --apply none "${dump%:*}"
@@ -437,6 +438,8 @@ expect 2 "is no page of this plan; expected a folder without others" recover $ch
 expect_none none 2 "settled: is there and is no folder" recover $chip --apply none --pages settled newer
 expect_none missing 2 "missing/none: cannot be made" recover $chip --pages missing/none newer
 expect_none none 2 "none: is there and is no regular file" recover $chip --apply none --pages none newer
+expect_none folder_of_pages 2 "is named for two files to write" \
+	recover $chip --apply folder_of_pages/step-01-block-15-page-0.bin --pages ./folder_of_pages newer
 expect_none none 0 "recover: nothing to do" recover $chip --pages none settled
 expect_none none 1 "recover: refused, 7" recover $chip --pages none no_copy
 mkdir empty_folder
