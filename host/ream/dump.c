@@ -170,13 +170,21 @@ uint64_t dump_offset(const struct dump *dump, unsigned block, unsigned page)
 
 /* ---- telling */
 
+/* Where N comes from. Four blocks alone do not show it. */
+static const char *blocks_from(const struct dump *dump)
+{
+	if (!dump->blocks_told)
+		return "by the dump's size";
+	return dump->whole ? "told" : "told, unchecked";
+}
+
 void dump_print(const struct dump *dump)
 {
 	const struct region *region = &dump->region;
 	const unsigned counting = (unsigned)region_status_len(region);
 
 	printf("chip: %" PRIu64 " blocks (%s), %" PRIu64 " page%s a block (%s)\n", region->n,
-	       dump->blocks_told ? "told" : "by the dump's size", dump->pages_per_block,
+	       blocks_from(dump), dump->pages_per_block,
 	       plural(dump->pages_per_block), dump->pages_told ? "told" : "assumed");
 	printf("dump: %s; a copy of the table fills %u page%s\n",
 	       dump->whole ? "the whole chip" : "the last four blocks", region->pages, plural(region->pages));

@@ -124,7 +124,7 @@ poke differing 0 '\376'
 # ---- pair
 
 expect 0 "pair: settled, version 5, primary in block 12, mirror in block 15" pair $chip settled
-says "chip: 16 blocks (told), 1 page a block (told)"
+says "chip: 16 blocks (told, unchecked), 1 page a block (told)"
 says "dump: the last four blocks; a copy of the table fills 1 page"
 says "pages: all 4 that count read well (assumed)"
 says "block 13: erased"
@@ -136,6 +136,7 @@ says "chip: 16 blocks (by the dump's size), 1 page a block (told)"
 sed 1,2d out >whole_chip
 check "a dump of the whole chip and one of its last four blocks agree" cmp four_blocks whole_chip
 expect 0 "version 5" pair --pages-per-block 1 --blocks=16 -- whole
+says "chip: 16 blocks (told), 1 page a block (told)"
 
 expect 1 "pair: refused, 7: there is no good primary and no good mirror" pair $chip no_copy
 says "recovery: refused, 7"
