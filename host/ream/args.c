@@ -72,8 +72,8 @@ static bool take_number(const struct syntax *syntax, const struct argument *argu
 static bool gather(const struct syntax *syntax, const struct argument *argument, const char *text)
 {
 	if (argument->texts->count == MOST_TEXTS) {
-		complain("%s: --%s %s: is given more than %d times; a list with commas takes more", syntax->command,
-			 argument->name, text, MOST_TEXTS);
+		complain("%s: --%s %s: is given more than %d times; a list with commas takes more",
+			 syntax->command, argument->name, text, MOST_TEXTS);
 		return false;
 	}
 	argument->texts->text[argument->texts->count++] = text;
@@ -130,7 +130,7 @@ static void complain_of_option(const struct syntax *syntax, int given, const cha
 		complain("%s: %s: no such option (ream %s --help)", syntax->command, option, syntax->command);
 }
 
-/* The option that getopt_long() took, as it was given. Its value, if it is an argument of its own, stands last. */
+/* The option that getopt_long() took, as it was given; its value, if it is an argument of its own, stands last. */
 static const char *as_given(char **argv)
 {
 	return optarg && optarg == argv[optind - 1] ? argv[optind - 2] : argv[optind - 1];
@@ -150,7 +150,8 @@ static bool take_option(const struct syntax *syntax, unsigned i, const char *giv
 	const struct argument *argument = &syntax->argument[i];
 
 	if (!in_full(argument, given)) {
-		complain("%s: %s: no such option; --%s has to be named in full", syntax->command, given, argument->name);
+		complain("%s: %s: no such option; --%s has to be named in full", syntax->command, given,
+			 argument->name);
 		return false;
 	}
 	if (*before && !argument->texts) {

@@ -40,7 +40,8 @@ static bool take_both(const struct region *region, struct both *both)
 	uint8_t version[KINDS];
 
 	return take_copy(region, PRIMARY, both->bitmap[PRIMARY], &version[PRIMARY]) &&
-	       take_copy(region, MIRROR, both->bitmap[MIRROR], &version[MIRROR]) && version[PRIMARY] == version[MIRROR];
+	       take_copy(region, MIRROR, both->bitmap[MIRROR], &version[MIRROR]) &&
+	       version[PRIMARY] == version[MIRROR];
 }
 
 /* The run that starts at a block. */

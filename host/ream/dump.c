@@ -75,7 +75,9 @@ static uint64_t fitting_pages(uint64_t size, uint64_t n)
 	size /= PAGE_BYTES;
 	if (size % n == 0 && size / n <= MOST_PAGES_PER_BLOCK)
 		return size / n;
-	return size % REGION_BLOCKS == 0 && size / REGION_BLOCKS <= MOST_PAGES_PER_BLOCK ? size / REGION_BLOCKS : 0;
+	if (size % REGION_BLOCKS == 0 && size / REGION_BLOCKS <= MOST_PAGES_PER_BLOCK)
+		return size / REGION_BLOCKS;
+	return 0;
 }
 
 static void complain_of_size(const struct dump *dump, uint64_t n, uint64_t block_size)

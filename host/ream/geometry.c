@@ -23,7 +23,8 @@ struct tail {
 static bool is_unreadable(const struct dump *dump, uint64_t page)
 {
 	const uint64_t first = dump_offset(dump, 0, 0) / PAGE_BYTES;
-	const uint64_t block = (page - first) / dump->pages_per_block, of_block = (page - first) % dump->pages_per_block;
+	const uint64_t block = (page - first) / dump->pages_per_block;
+	const uint64_t of_block = (page - first) % dump->pages_per_block;
 
 	return page >= first && of_block < dump->region.pages &&
 	       !region_reads_well(&dump->region, (unsigned)block, (unsigned)of_block);
@@ -67,8 +68,8 @@ static unsigned misplaced(const struct tail *tail, uint64_t pages_per_block, uns
 	return 0;
 }
 
-/* Is a dump of this size one of a whole chip or of four blocks, with so many pages a block? Gives P, which is that
- * of the region where N is not known. */
+/* Is a dump of this size one of a whole chip or of four blocks, with so many pages a block? Gives P, which is
+ * that of the region where N is not known. */
 static bool divides(const struct dump *dump, uint64_t pages_per_block, unsigned *pages)
 {
 	const uint64_t size = pages_per_block * PAGE_BYTES, blocks = dump->input.size / size;
@@ -106,7 +107,8 @@ static void explain(const struct dump *dump, const struct tail *tail, char *hint
 			 pages_per_block, plural(pages_per_block), pages_per_block);
 }
 
-static void warn_of_signature(const struct dump *dump, const struct tail *tail, unsigned back, struct notes *warnings)
+static void warn_of_signature(const struct dump *dump, const struct tail *tail, unsigned back,
+			      struct notes *warnings)
 {
 	const uint64_t page = tail->pages - back;
 	const uint64_t first = dump->whole ? 0 : dump->region.n - REGION_BLOCKS;
@@ -122,8 +124,8 @@ static void warn_of_signature(const struct dump *dump, const struct tail *tail, 
 		  dump->region.pages, plural(dump->region.pages), hint);
 }
 
-/* A chip of few pages a block can have its copies by chance where one of more has them; one of more has them always
- * where one of few can have them. So only more pages a block are a doubt. */
+/* A chip of few pages a block can have its copies by chance where one of more has them; one of more has them
+ * always where one of few can have them. So only more pages a block are a doubt. */
 static void warn_of_assumed(const struct dump *dump, const struct tail *tail, struct notes *warnings)
 {
 	const uint64_t pages_per_block = fitting(dump, tail, 2 * dump->pages_per_block);

@@ -32,7 +32,8 @@ static bool pour(FILE *from, FILE *to, const char *name, const char *folder, uin
 	kept = kept && fflush(to) == 0;
 	progress_end(&progress);
 	if (!kept)
-		complain("%s: cannot be kept in %s, at offset %" PRIu64 ": %s", name, folder, *size, strerror(errno));
+		complain("%s: cannot be kept in %s, at offset %" PRIu64 ": %s", name, folder, *size,
+			 strerror(errno));
 	else if (ferror(from))
 		complain("%s: cannot be read at offset %" PRIu64, name, *size);
 	return kept && !ferror(from);
@@ -102,8 +103,8 @@ bool input_read(const struct input *input, uint64_t offset, uint8_t *bytes, size
 {
 	if (fseeko(input->stream, (off_t)offset, SEEK_SET) == 0 && fread(bytes, 1, len, input->stream) == len)
 		return true;
-	complain("%s: cannot be read at offset %" PRIu64 ", where %zu bytes were expected", input->id.name, offset,
-		 len);
+	complain("%s: cannot be read at offset %" PRIu64 ", where %zu bytes were expected", input->id.name,
+		 offset, len);
 	return false;
 }
 

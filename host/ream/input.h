@@ -1,6 +1,6 @@
 /*
- * Input: regular files, and pipes, of which all bytes are kept in a file without a name until the input is closed.
- * The path "-" is the standard input.
+ * Input: regular files, and pipes, of which all bytes are kept in a file without a name until the input is
+ * closed. The path "-" is the standard input.
  */
 #ifndef INPUT_H
 #define INPUT_H

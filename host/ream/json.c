@@ -6,11 +6,21 @@
 
 /* ---- texts */
 
-/* The length of the character of UTF-8 that bytes start with, 1 to 4; 0 where they start with none. */
+/* The length of a character of UTF-8, 1 to 4, by its first byte; 0 where none starts so. */
+static unsigned length_by(unsigned char lead)
+{
+	if (lead < 0x80)
+		return 1;
+	if (lead < 0xC2 || lead > 0xF4)
+		return 0;
+	return lead < 0xE0 ? 2 : lead < 0xF0 ? 3 : 4;
+}
+
+/* The length of the character that bytes start with; 0 where they start with none. */
 static unsigned character(const unsigned char *bytes)
 {
 	const unsigned char lead = bytes[0];
-	const unsigned len = lead < 0x80 ? 1 : lead < 0xC2 ? 0 : lead < 0xE0 ? 2 : lead < 0xF0 ? 3 : lead < 0xF5 ? 4 : 0;
+	const unsigned len = length_by(lead);
 
 	for (unsigned i = 1; i < len; i++)
 		if (bytes[i] < 0x80 || bytes[i] > 0xBF)

@@ -1,6 +1,6 @@
 /*
- * Writes JSON, a value to a line. Objects and lists are opened and ended; a value within an object has a name, one
- * within a list has NULL for it.
+ * Writes JSON, a value to a line. Objects and lists are opened and ended; a value within an object has a name,
+ * one within a list has NULL for it.
  */
 #ifndef JSON_H
 #define JSON_H

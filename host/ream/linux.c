@@ -37,8 +37,8 @@ static bool entries_behind(const struct region *region, unsigned block)
 static void note_header(const struct region *region, unsigned block, bool certain, struct notes *notes)
 {
 	notes_add(notes,
-		  "block %" PRIu64 " is a copy with its header on page 0 only, as Linux writes it above 8,192 blocks%s. "
-		  "The library wants the header on all %u pages (docs/LINUX.md)",
+		  "block %" PRIu64 " is a copy with its header on page 0 only, as Linux writes it above 8,192 "
+		  "blocks%s. The library wants the header on all %u pages (docs/LINUX.md)",
 		  region->n - REGION_BLOCKS + block,
 		  certain ? "" : ", and as a power cut after its first page leaves it", region->pages);
 }
@@ -49,16 +49,18 @@ static void note_given_up(const struct region *region, unsigned block, struct no
 	if (!carries_signature(region, block, 0) || region_page(region, block, 0)[PAGE_DATA] != 0)
 		return;
 	notes_add(notes,
-		  "block %" PRIu64 " carries a signature and 0 in OOB 0, as Linux leaves a table's block that went bad. "
-		  "If it did, lend its first page with the OOB all 0 (docs/LINUX.md)",
+		  "block %" PRIu64 " carries a signature and 0 in OOB 0, as Linux leaves a table's block that "
+		  "went bad. If it did, lend its first page with the OOB all 0 (docs/LINUX.md)",
 		  region->n - REGION_BLOCKS + block);
 }
 
 void linux_look_at_pages(const struct region *region, unsigned refusal, struct notes *notes)
 {
 	for (unsigned block = 0; block < REGION_BLOCKS; block++) {
+		const bool certain = refusal == REAM_NO_COPY || entries_behind(region, block);
+
 		if (header_on_first_only(region, block))
-			note_header(region, block, refusal == REAM_NO_COPY || entries_behind(region, block), notes);
+			note_header(region, block, certain, notes);
 		if (refusal == REAM_SEVERAL_COPIES)
 			note_given_up(region, block, notes);
 	}
@@ -86,8 +88,8 @@ void linux_look_at_entries(const struct settled *table, uint64_t n, struct notes
 	    count(table, last, n, REAM_ENTRY_RESERVED) != 0)
 		return;
 	notes_add(notes,
-		  "%" PRIu64 " entr%s reserved (10) and none late (01), as in a table that Linux writes: it marks a "
-		  "block that went bad in use as 10. If Linux has written this chip, reserved means worn "
+		  "%" PRIu64 " entr%s reserved (10) and none late (01), as in a table that Linux writes: it "
+		  "marks a block that went bad in use as 10. If Linux has written this chip, reserved means worn "
 		  "(docs/LINUX.md)",
 		  reserved, reserved == 1 ? "y is" : "ies are");
 }

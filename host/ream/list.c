@@ -46,8 +46,8 @@ bool list_next(struct list *list, struct item *item)
 		return false;
 	}
 	if (!take_numbers(list, item)) {
-		complain("%s %s: cannot take \"%.*s\"; expected %s", list->option, list->text, item->len, item->text,
-			 list->expected);
+		complain("%s %s: cannot take \"%.*s\"; expected %s", list->option, list->text, item->len,
+			 item->text, list->expected);
 		return false;
 	}
 	list->rest = item->text[item->len] == ',' ? item->text + item->len + 1 : NULL;

@@ -28,8 +28,8 @@ struct item {
 /* Starts with a whole list. */
 struct list list_begin(const char *option, const char *text, const char *expected, char between);
 
-/* Takes the next item. At the end, and with a complaint where the list is wrong, there is none; only the end leaves
- * `rest` NULL. */
+/* Takes the next item. At the end, and with a complaint where the list is wrong, there is none; only the end
+ * leaves `rest` NULL. */
 bool list_next(struct list *list, struct item *item);
 
 #endif

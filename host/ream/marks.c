@@ -12,12 +12,15 @@
 
 static const char option[] = "update: --mark-late";
 
+static bool is_block(const struct numeral *numeral, uint64_t n)
+{
+	return !numeral->outside && numeral->value < n;
+}
+
 /* Takes one block or range of a list. */
 static bool want_item(const struct list *list, const struct item *item, uint64_t n, uint8_t *wanted)
 {
-	const struct numeral *outside = item->first.outside || item->first.value >= n ? &item->first : &item->second;
-
-	if (outside->outside || outside->value >= n) {
+	if (!is_block(&item->first, n) || !is_block(&item->second, n)) {
 		complain("%s %s: %.*s is out of range, expected blocks from 0 to %" PRIu64 " (%s)", list->option,
 			 list->text, item->len, item->text, n - 1, REFUSED_RANGE);
 		return false;
@@ -82,7 +85,8 @@ void marks_write(struct json *json, const uint8_t *old, const uint8_t *wanted, u
 		json_object(json, NULL);
 		json_number(json, "block", block);
 		json_text(json, "from", table_entry(entry));
-		json_text(json, "to", table_entry(entry == REAM_ENTRY_GOOD ? ream_entry_get(wanted, block) : entry));
+		json_text(json, "to",
+			  table_entry(entry == REAM_ENTRY_GOOD ? ream_entry_get(wanted, block) : entry));
 		json_end(json);
 	}
 	json_end(json);

@@ -122,7 +122,8 @@ static bool may_replace(const char *path, bool force)
 	return force;
 }
 
-static bool judge(const struct outputs *outputs, unsigned i, const struct file_id *read, unsigned reads, bool force)
+static bool judge(const struct outputs *outputs, unsigned i, const struct file_id *read, unsigned reads,
+		  bool force)
 {
 	const char *path = outputs->output[i].path;
 	struct place place;
@@ -168,7 +169,8 @@ static bool write_one(struct outputs *outputs, unsigned i)
 	errno = 0;
 	written = fflush(stream) == 0 && !ferror(stream) && fsync(fileno(stream)) == 0;
 	if (filled && !written)
-		complain("%s: cannot be written: %s", output->path, errno != 0 ? strerror(errno) : "a write failed");
+		complain("%s: cannot be written: %s", output->path,
+			 errno != 0 ? strerror(errno) : "a write failed");
 	outputs->stream[i] = NULL;
 	fclose(stream);
 	return filled && written;

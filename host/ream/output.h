@@ -25,7 +25,7 @@ enum { MOST_OUTPUTS = 12 };
 struct outputs {
 	struct output output[MOST_OUTPUTS];
 	unsigned count;
-	char *temporary[MOST_OUTPUTS];	/* the names that they have until they are whole; NULL where there is none */
+	char *temporary[MOST_OUTPUTS];	/* the names that they have until they are whole, or NULL */
 	FILE *stream[MOST_OUTPUTS];
 };
 

@@ -1,6 +1,6 @@
 /*
- * The pages that a plan writes, as files in a folder: 2,112 bytes each, data and OOB, for nandwrite --oob. Their names
- * sort in the plan's order: step-01-block-1023-page-0.bin.
+ * The pages that a plan writes, as files in a folder: 2,112 bytes each, data and OOB, for nandwrite --oob. Their
+ * names sort in the plan's order: step-01-block-1023-page-0.bin.
  */
 #ifndef PAGES_H
 #define PAGES_H
@@ -29,8 +29,8 @@ struct pages {
 /* The name of the file of a step that writes. */
 void pages_name(const struct plan *plan, unsigned step, char name[PAGE_NAME_LEN]);
 
-/* Makes the folder, if it is not there, and adds its files to the outputs. A folder with the pages of another plan is
- * not taken. False, with a complaint, where that fails. */
+/* Makes the folder, if it is not there, and adds its files to the outputs. A folder with the pages of another
+ * plan is not taken. False, with a complaint, where that fails. */
 bool pages_begin(struct pages *pages, const char *folder, const struct plan *plan, struct outputs *outputs);
 
 /* The files are written, or are not. */

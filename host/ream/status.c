@@ -28,6 +28,7 @@ bool status_read(struct region *region, const char *path, struct file_id *id)
 static bool mark_unreadable(struct region *region, const struct list *list, const struct item *item)
 {
 	const uint64_t first = region->n - REGION_BLOCKS;
+	unsigned block;
 
 	if (!item->two) {
 		complain("%s %s: %.*s has no page; expected %s", list->option, list->text, item->len, item->text,
@@ -35,8 +36,8 @@ static bool mark_unreadable(struct region *region, const struct list *list, cons
 		return false;
 	}
 	if (item->first.outside || item->first.value < first || item->first.value >= region->n) {
-		complain("%s %s: %.*s is out of range, expected one of the last four blocks, %" PRIu64 " to %" PRIu64
-			 " (%s)",
+		complain("%s %s: %.*s is out of range, expected one of the last four blocks, %" PRIu64
+			 " to %" PRIu64 " (%s)",
 			 list->option, list->text, item->len, item->text, first, region->n - 1, REFUSED_RANGE);
 		return false;
 	}
@@ -45,7 +46,8 @@ static bool mark_unreadable(struct region *region, const struct list *list, cons
 			 list->option, list->text, item->len, item->text, region->pages - 1, REFUSED_RANGE);
 		return false;
 	}
-	*region_status(region, (unsigned)(item->first.value - first), (unsigned)item->second.value) = REAM_UNREADABLE;
+	block = (unsigned)(item->first.value - first);
+	*region_status(region, block, (unsigned)item->second.value) = REAM_UNREADABLE;
 	return true;
 }
 

@@ -15,13 +15,14 @@ static uint64_t address(const struct ream_step *step, uint64_t pages_per_block)
 static void print_step(const struct plan *plan, unsigned i, uint64_t pages_per_block, bool names)
 {
 	const struct ream_step step = plan_step(plan, i);
+	const uint64_t at = address(&step, pages_per_block);
 	char name[PAGE_NAME_LEN];
 
 	if (step.kind == REAM_ERASE) {
-		printf("  %4u  erase  %5u     -  0x%09" PRIx64 "\n", i, step.block, address(&step, pages_per_block));
+		printf("  %4u  erase  %5u     -  0x%09" PRIx64 "\n", i, step.block, at);
 		return;
 	}
-	printf("  %4u  write  %5u  %4u  0x%09" PRIx64, i, step.block, step.page, address(&step, pages_per_block));
+	printf("  %4u  write  %5u  %4u  0x%09" PRIx64, i, step.block, step.page, at);
 	pages_name(plan, i, name);
 	if (names)
 		printf("  %s", name);

@@ -11,14 +11,16 @@
 #include "table.h"
 
 /* A step in words. */
-static void step_words(const struct story *story, const struct row *row, const char *before, char words[EVENT_LEN])
+static void step_words(const struct story *story, const struct row *row, const char *before,
+		       char words[EVENT_LEN])
 {
 	const uint64_t block = story->region.n - REGION_BLOCKS + row->block;
 
 	if (row->page == ALL_PAGES)
 		snprintf(words, EVENT_LEN, "%sstep %u: erase %" PRIu64, before, row->step, block);
 	else
-		snprintf(words, EVENT_LEN, "%sstep %u: write %" PRIu64 " page %u", before, row->step, block, row->page);
+		snprintf(words, EVENT_LEN, "%sstep %u: write %" PRIu64 " page %u", before, row->step, block,
+			 row->page);
 }
 
 void story_event(const struct story *story, const struct row *row, char words[EVENT_LEN])

@@ -296,7 +296,8 @@ static void draw_result(FILE *stream, const struct row *row, const struct layout
 	draw_text(stream, layout->results, y + 27, "small", story_reason(row->result));
 }
 
-static void draw_row(FILE *stream, const struct story *story, size_t number, const struct layout *layout, unsigned y)
+static void draw_row(FILE *stream, const struct story *story, size_t number, const struct layout *layout,
+		     unsigned y)
 {
 	const struct row *row = &story->row[number];
 	char label[LOOK_LEN], words[EVENT_LEN];

@@ -24,8 +24,8 @@ const char *table_entry(unsigned entry);
 void table_print_pair(const struct settled *table);
 void table_write_pair(struct json *json, const struct settled *table);
 
-/* Tells how many entries there are of each kind, and the blocks that are not good: a line, or a value, for each run
- * of equal entries. */
+/* Tells how many entries there are of each kind, and the blocks that are not good: a line, or a value, for each
+ * run of equal entries. */
 void table_print_entries(const struct settled *table, uint64_t n);
 void table_write_entries(struct json *json, const struct settled *table, uint64_t n);
 

@@ -10,8 +10,8 @@
 
 enum { MOST_TEMPORARY = 16 };
 
-/* Makes a file of another name beside a path, and remembers it. Gives the name, for the caller to free; NULL, with
- * errno set, where that fails. */
+/* Makes a file of another name beside a path, and remembers it. Gives the name, for the caller to free; NULL,
+ * with errno set, where that fails. */
 char *temporary_make(const char *path, FILE **stream);
 
 /* Gives it the name of the path. */

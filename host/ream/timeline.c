@@ -98,8 +98,8 @@ static size_t events(const struct story *story, enum event event)
 
 static void print_sum(const struct story *story)
 {
-	const size_t all = story->rows - 1, updates = events(story, EVENT_UPDATE), cuts = events(story, EVENT_CUT);
-	const size_t recoveries = events(story, EVENT_RECOVERY);
+	const size_t all = story->rows - 1, updates = events(story, EVENT_UPDATE);
+	const size_t cuts = events(story, EVENT_CUT), recoveries = events(story, EVENT_RECOVERY);
 
 	printf("\n%zu event%s: %zu update%s planned, %zu power cut%s, %zu recover%s planned\n", all, plural(all),
 	       updates, plural(updates), cuts, plural(cuts), recoveries, recoveries == 1 ? "y" : "ies");
