@@ -130,7 +130,7 @@ static void complain_of_option(const struct syntax *syntax, int given, const cha
 		complain("%s: %s: no such option (ream %s --help)", syntax->command, option, syntax->command);
 }
 
-/* The option that getopt_long() took, as it was given; its value, if it is an argument of its own, stands last. */
+/* The option that getopt_long() took, as it was given; its value, if it is an argument of its own, is last. */
 static const char *as_given(char **argv)
 {
 	return optarg && optarg == argv[optind - 1] ? argv[optind - 2] : argv[optind - 1];

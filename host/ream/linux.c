@@ -24,7 +24,7 @@ static bool header_on_first_only(const struct region *region, unsigned block)
 	return true;
 }
 
-/* Has a page of such a block behind the first an entry that is not good? A power cut leaves none there. */
+/* Has a page of such a block behind the first an entry that is not good? */
 static bool entries_behind(const struct region *region, unsigned block)
 {
 	for (unsigned page = 1; page < region->pages; page++)
@@ -34,13 +34,25 @@ static bool entries_behind(const struct region *region, unsigned block)
 	return false;
 }
 
-static void note_header(const struct region *region, unsigned block, bool certain, struct notes *notes)
+/* What else leaves a header on the first page only. Nothing does, if entries stand behind it. If no copy is good it
+ * was no power cut, but N may be told wrong. */
+static const char *else_by(const struct region *region, unsigned block, unsigned refusal)
 {
+	if (entries_behind(region, block))
+		return "";
+	if (refusal == REAM_NO_COPY)
+		return ", and as a chip of 8,192 blocks or fewer has it";
+	return ", and as a power cut after its first page leaves it";
+}
+
+static void note_header(const struct region *region, unsigned block, unsigned refusal, struct notes *notes)
+{
+	if (!header_on_first_only(region, block))
+		return;
 	notes_add(notes,
 		  "block %" PRIu64 " is a copy with its header on page 0 only, as Linux writes it above 8,192 "
 		  "blocks%s. The library wants the header on all %u pages (docs/LINUX.md)",
-		  region->n - REGION_BLOCKS + block,
-		  certain ? "" : ", and as a power cut after its first page leaves it", region->pages);
+		  region->n - REGION_BLOCKS + block, else_by(region, block, refusal), region->pages);
 }
 
 /* Under Linux a block of a copy that goes bad keeps its signature and has 0 in OOB 0. */
@@ -57,10 +69,7 @@ static void note_given_up(const struct region *region, unsigned block, struct no
 void linux_look_at_pages(const struct region *region, unsigned refusal, struct notes *notes)
 {
 	for (unsigned block = 0; block < REGION_BLOCKS; block++) {
-		const bool certain = refusal == REAM_NO_COPY || entries_behind(region, block);
-
-		if (header_on_first_only(region, block))
-			note_header(region, block, certain, notes);
+		note_header(region, block, refusal, notes);
 		if (refusal == REAM_SEVERAL_COPIES)
 			note_given_up(region, block, notes);
 	}

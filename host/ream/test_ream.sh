@@ -320,7 +320,8 @@ two="--blocks 8196 --pages-per-block 2"
 { primary 005; blank; blank; blank; blank; blank; mirror 005; blank; } >by_linux
 expect 1 "pair: refused, 7" pair $two by_linux
 for block in 8192 8195; do
-	notes "note: block $block is a copy with its header on page 0 only, as Linux writes it above 8,192 blocks. The library"
+	notes "note: block $block is a copy with its header on page 0 only, as Linux writes it above 8,192 blocks, and as a chip"
+	notes "and as a chip of 8,192 blocks or fewer has it. The library wants the header on all 2 pages (docs/LINUX.md)"
 done
 # the commands of docs/LINUX.md, as printed
 mkdir linux
