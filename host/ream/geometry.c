@@ -2,6 +2,7 @@
 #include "geometry.h"
 
 #include <inttypes.h>
+#include <stdarg.h>
 #include <string.h>
 
 #include "reamsickle.h"
@@ -9,7 +10,7 @@
 
 /* The pages at a dump's end that can belong to the last four blocks, whatever the pages of a block are. They are
  * counted from the end: the last page is 1. */
-enum { MOST_BACK = REGION_BLOCKS * MOST_PAGES_PER_BLOCK };
+enum { MOST_BACK = REGION_BLOCKS * MOST_PAGES_PER_BLOCK, FITTING_LEN = 160 };
 
 struct tail {
 	uint64_t pages;			/* of the dump */
@@ -78,33 +79,51 @@ static bool divides(const struct dump *dump, uint64_t pages_per_block, unsigned 
 	return dump->input.size % size == 0 && *pages != 0;
 }
 
-/* The largest number of pages a block, among the powers of two from `least` on, with which every signature stands
- * where it can; 0 where there is none. */
-static uint64_t fitting(const struct dump *dump, const struct tail *tail, uint64_t least)
+/* Adds words to a text that has room for FITTING_LEN. */
+static void append(char *text, const char *format, ...)
 {
+	const size_t len = strlen(text);
+	va_list arguments;
+
+	va_start(arguments, format);
+	vsnprintf(text + len, FITTING_LEN - len, format, arguments);
+	va_end(arguments);
+}
+
+/* Tells the numbers of pages a block, among the powers of two from `least` on, with which every signature stands
+ * where it can, each with the number of blocks. False where there is none. */
+static bool tell_fitting(const struct dump *dump, const struct tail *tail, uint64_t least,
+			 char words[FITTING_LEN])
+{
+	words[0] = '\0';
 	for (uint64_t pages_per_block = MOST_PAGES_PER_BLOCK; pages_per_block >= least; pages_per_block /= 2) {
 		unsigned pages;
 
-		if (pages_per_block != dump->pages_per_block && divides(dump, pages_per_block, &pages) &&
-		    misplaced(tail, pages_per_block, pages) == 0)
-			return pages_per_block;
+		if (pages_per_block == dump->pages_per_block || !divides(dump, pages_per_block, &pages) ||
+		    misplaced(tail, pages_per_block, pages) != 0)
+			continue;
+		append(words, "%s%" PRIu64 " page%s a block (", words[0] ? " or " : "", pages_per_block,
+		       plural(pages_per_block));
+		if (tail->pages / pages_per_block == REGION_BLOCKS)
+			append(words, "the last four blocks)");
+		else
+			append(words, "%" PRIu64 " blocks)", tail->pages / pages_per_block);
 	}
-	return 0;
+	return words[0] != '\0';
 }
 
 /* ---- warnings */
 
 /* What would have a signature stand there. */
-static void explain(const struct dump *dump, const struct tail *tail, char *hint, size_t len)
+static void explain(const struct dump *dump, const struct tail *tail, char hint[FITTING_LEN])
 {
-	const uint64_t pages_per_block = fitting(dump, tail, 1);
+	char fitting[FITTING_LEN];
 
 	hint[0] = '\0';
 	if (dump->blocks_told && misplaced(tail, dump->pages_per_block, MOST_PAGES) == 0)
-		snprintf(hint, len, "; a chip of more blocks has longer copies (--blocks)");
-	else if (pages_per_block != 0)
-		snprintf(hint, len, "; %" PRIu64 " page%s a block would fit (--pages-per-block %" PRIu64 ")",
-			 pages_per_block, plural(pages_per_block), pages_per_block);
+		append(hint, "; a chip of more blocks has longer copies (--blocks)");
+	else if (tell_fitting(dump, tail, 1, fitting))
+		append(hint, "; %s would fit (--pages-per-block)", fitting);
 }
 
 static void warn_of_signature(const struct dump *dump, const struct tail *tail, unsigned back,
@@ -112,9 +131,9 @@ static void warn_of_signature(const struct dump *dump, const struct tail *tail, 
 {
 	const uint64_t page = tail->pages - back;
 	const uint64_t first = dump->whole ? 0 : dump->region.n - REGION_BLOCKS;
-	char hint[96];
+	char hint[FITTING_LEN];
 
-	explain(dump, tail, hint, sizeof(hint));
+	explain(dump, tail, hint);
 	notes_add(warnings,
 		  "%s: block %" PRIu64 ", page %" PRIu64 ", at offset %" PRIu64
 		  ", carries a table's signature, where none can stand: with %" PRIu64
@@ -124,23 +143,17 @@ static void warn_of_signature(const struct dump *dump, const struct tail *tail, 
 		  dump->region.pages, plural(dump->region.pages), hint);
 }
 
-/* A chip of few pages a block can have its copies by chance where one of more has them; one of more has them
- * always where one of few can have them. So only more pages a block are a doubt. */
+/* Copies in the last two blocks of a chip stand right for half as many pages a block too. So it is no doubt if
+ * fewer pages a block fit besides those assumed, but it is one if more do. */
 static void warn_of_assumed(const struct dump *dump, const struct tail *tail, struct notes *warnings)
 {
-	const uint64_t pages_per_block = fitting(dump, tail, 2 * dump->pages_per_block);
-	char chip[48] = "in the last four blocks of a chip";
-	uint64_t blocks;
+	char fitting[FITTING_LEN];
 
-	if (pages_per_block == 0)
-		return;
-	blocks = tail->pages / pages_per_block;
-	if (blocks != REGION_BLOCKS)
-		snprintf(chip, sizeof(chip), "on a chip of %" PRIu64 " blocks", blocks);
-	notes_add(warnings,
-		  "%s: %" PRIu64 " pages a block are assumed, but every copy of the table stands where %" PRIu64
-		  " pages a block have it too, %s; tell which by --pages-per-block",
-		  dump->input.id.name, dump->pages_per_block, pages_per_block, chip);
+	if (tell_fitting(dump, tail, 2 * dump->pages_per_block, fitting))
+		notes_add(warnings,
+			  "%s: %" PRIu64 " pages a block are assumed, but every copy of the table stands right "
+			  "for %s too; tell which by --pages-per-block",
+			  dump->input.id.name, dump->pages_per_block, fitting);
 }
 
 /* The last byte behind the bitmap's end that is not FF, of the last page of a copy; 0 where there is none. */

@@ -34,8 +34,8 @@ static bool entries_behind(const struct region *region, unsigned block)
 	return false;
 }
 
-/* What else leaves a header on the first page only. Nothing does, if entries stand behind it. If no copy is good it
- * was no power cut, but N may be told wrong. */
+/* What else leaves a header on the first page only. Nothing does, if entries stand behind it. If no copy is
+ * good it was no power cut, but N may be told wrong. */
 static const char *else_by(const struct region *region, unsigned block, unsigned refusal)
 {
 	if (entries_behind(region, block))

@@ -241,9 +241,8 @@ check "an erase makes every page of its block blank" cmp expected erased
 
 # ---- geometry
 
-# A chip of so many blocks, of the same number of pages a block as the tool assumes or of twice as many: a whole dump
-# or one of its last four blocks, with the copies in these blocks counted from the end.
-make_dump() { # BLOCKS PAGES PRIMARY MIRROR: with block 7 late
+# A dump of so many blocks of so many pages, with the copies in these blocks, counted from the end, and block 7 late.
+make_dump() { # BLOCKS PAGES PRIMARY MIRROR
 	left=$1
 	while [ "$left" -gt 0 ]; do
 		case $left in
@@ -258,27 +257,29 @@ make_dump() { # BLOCKS PAGES PRIMARY MIRROR: with block 7 late
 	done
 }
 make_dump 16 128 1 2 >long_blocks
-expect_warned 0 "long_blocks: 64 pages a block are assumed, but every copy of the table stands where 128 pages a block" \
+expect_warned 0 "long_blocks: 64 pages a block are assumed, but every copy of the table stands right for 128 pages" \
 	"chip: 32 blocks (by the dump's size), 64 pages a block (assumed)" pair long_blocks
-check "the warning tells the other chip" grep -qF -e "on a chip of 16 blocks; tell which by --pages-per-block" err
+check "the warning tells the other chip" \
+	grep -qF -e "for 128 pages a block (16 blocks) too; tell which by --pages-per-block" err
 expect 0 "pair: settled, version 5, primary in block 15, mirror in block 14" pair --pages-per-block 128 long_blocks
 expect 0 "chip: 32 blocks (by the dump's size), 64 pages a block (told)" pair --pages-per-block 64 long_blocks
 expect_warned 0 "64 pages a block are assumed" "update: 4 steps" update --mark-late 1 long_blocks
 expect_warned 0 "64 pages a block are assumed" "recover: nothing to do" recover long_blocks
-for places in "1 3" "2 3" "1 4" "3 4"; do
+for places in "1 3" "2 3" "1 4" "3 4" "4 2"; do
 	make_dump 16 128 $places >long_blocks
 	expect_warned 1 "carries a table's signature, where none can stand" "pair: refused" pair long_blocks
-	check "the warning names what fits" grep -qF -e "128 pages a block would fit (--pages-per-block 128)" err
+	check "the warning names what fits" grep -q "; .*128 pages a block (16 blocks) would fit (--pages-per-block)" err
 	expect 0 "pair: settled, version 5" pair --pages-per-block 128 long_blocks
 done
 make_dump 16 128 1 4 >long_blocks
 "$ream" pair long_blocks >out 2>err
 check "the warning names block, page and offset" grep -qF -e "block 24, page 0, at offset 3244032, carries" err
 make_dump 16 32 1 2 >short_blocks
-expect_warned 1 "32 pages a block would fit (--pages-per-block 32)" "chip: 8 blocks" pair short_blocks
+expect_warned 1 "; 32 pages a block (16 blocks) or 16 pages a block (32 blocks) would fit" "chip: 8 blocks" \
+	pair short_blocks
 check "the warning names block, page and offset" grep -qF -e "block 7, page 32, at offset 1013760, carries" err
 make_dump 4 128 1 2 >long_region
-expect_warned 0 "128 pages a block have it too, in the last four blocks of a chip" "chip: 8 blocks" pair long_region
+expect_warned 0 "right for 128 pages a block (the last four blocks) too" "chip: 8 blocks" pair long_region
 expect 2 "the last four; --pages-per-block 128 would fit (refusal 1" pair --blocks 1024 long_region
 make_dump 16 64 1 2 >usual
 expect 0 "chip: 16 blocks (by the dump's size), 64 pages a block (assumed)" pair usual
