@@ -626,21 +626,34 @@ fi
 # ---- signals, and how far it is
 
 # A run that waits in its output, with its files begun: it has more to say than a pipe holds that nobody reads.
-mkfifo unread
-if command -v timeout >/dev/null; then
-	mkdir signals
-	for name in HUP INT TERM; do
-		exec 3<>unread
-		(sleep 0.5; find signals -mindepth 1 >seen) &
-		timeout -s $name 1 "$ream" update --blocks 32768 --pages-per-block 4 --mark-late 0-32767 \
-			--apply signals/out --status-out signals/status --pages signals/pages large >unread 2>err
-		ended=$?
-		wait
-		exec 3<&-
-		check "a run is ended by SIG$name: $ended" [ $ended -eq 124 ]
-		check "a run that waits has its files begun" [ "$(grep -c 'signals/.*\.......$' seen)" -eq 10 ]
-		check "SIG$name leaves no file" [ -z "$(find signals -mindepth 1)" ]
+begun() { find signals -name '*.??????' | wc -l; }
+end_by() { # SIGNAL NUMBER COMMAND..: the command is ended by the signal, and leaves no file
+	signal=$1
+	number=$2
+	shift 2
+	exec 3<>unread
+	"$@" update --blocks 32768 --pages-per-block 4 --mark-late 0-32767 --apply signals/out \
+		--status-out signals/status --pages signals/pages large >unread 2>err &
+	run=$!
+	tries=0
+	until [ "$(begun)" -eq 10 ] || [ $tries -eq 100 ]; do
+		sleep 0.1
+		tries=$((tries + 1))
 	done
+	check "a run that waits has its files begun" [ "$(begun)" -eq 10 ]
+	kill -s "$signal" $run
+	{ wait $run; ended=$?; } 2>/dev/null
+	exec 3<&-
+	check "a run is ended by SIG$signal: $ended" [ $ended -eq $((128 + number)) ]
+	check "SIG$signal leaves no file" [ -z "$(find signals -mindepth 1)" ]
+}
+mkfifo unread
+mkdir signals
+end_by HUP 1 "$ream"
+end_by TERM 15 "$ream"
+# a shell has its background ignore SIGINT
+if env --default-signal=INT true 2>/dev/null; then
+	end_by INT 2 env --default-signal=INT "$ream"
 fi
 
 # Only a terminal is told, and only from the second second on.
