@@ -777,6 +777,10 @@ if command -v python3 >/dev/null && python3 -c 'import json' 2>/dev/null; then
 	has "d['refusal']['number'] == 7" "d['recovery']['refusal']['number'] == 7" "'steps' not in d['recovery']"
 	json 1 pair $chip differing_more
 	has "d['differing'][1] == {'first': 4, 'last': 7, 'primary': 'late', 'mirror': 'reserved', 'merged': 'factory'}"
+	json 1 pair $two by_linux
+	has "len(d['notes']) == 2" "'header on page 0 only, as Linux writes it above 8,192 blocks' in d['notes'][1]"
+	json 0 pair $chip worn
+	has "len(d['notes']) == 1" "d['notes'][0].startswith('2 entries are reserved (10) and none late (01)')"
 	json 0 update $chip --mark-late 8-10 kinds
 	has "d['command'] == 'update'" "d['marks'] == [{'block': 8, 'from': 'good', 'to': 'late'},
 		{'block': 9, 'from': 'reserved', 'to': 'reserved'}, {'block': 10, 'from': 'late', 'to': 'late'}]" \
