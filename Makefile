@@ -127,8 +127,8 @@ cuts-test: $(host)/histories $(host)/histories_sanitized
 
 # The tool's own test.
 tool-test: $(host)/ream $(host)/ream_sanitized
-	host/test_ream.sh $(host)/ream
-	host/test_ream.sh $(host)/ream_sanitized
+	host/ream/test_ream.sh $(host)/ream
+	host/ream/test_ream.sh $(host)/ream_sanitized
 
 # The inputs of the fuzzed target, without libFuzzer.
 replay: $(host)/replay

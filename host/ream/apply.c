@@ -1,38 +1,39 @@
 /* A plan, carried out on a copy of the dump that it was made for. */
 #include "apply.h"
 
+#include <errno.h>
 #include <inttypes.h>
 #include <stdio.h>
 #include <string.h>
 
-#include "file.h"
-#include "table.h"
+#include "progress.h"
+#include "status.h"
+#include "tool.h"
 
-/* What the copy is made from. */
-struct copy {
-	const struct dump *dump;
-	const struct plan *plan;
-};
+/* So much is copied at a time, and so much before it is sent to the disk, that what is told of the progress is
+ * true. */
+enum { CHUNK = 32 * PAGE_BYTES, SENT = 512 * CHUNK };
 
 /* Copies the dump as it is. */
-static bool copy_as_it_is(FILE *stream, const struct dump *dump)
+static bool copy_as_it_is(FILE *stream, const struct copy *copy)
 {
-	uint8_t bytes[32 * PAGE_BYTES];
-	uint64_t size, copied = 0;
-	size_t len;
-	FILE *from = file_open(dump->path, &size);
+	const struct input *from = &copy->dump->input;
+	struct progress progress = progress_begin("copying", from->size, NULL);
+	uint8_t bytes[CHUNK];
+	bool copied = true;
 
-	if (!from)
-		return false;
-	while ((len = fread(bytes, 1, sizeof(bytes), from)) > 0) {
-		fwrite(bytes, 1, len, stream);
-		copied += len;
+	for (uint64_t done = 0; done < from->size && copied;) {
+		const uint64_t rest = from->size - done;
+		const size_t len = rest < sizeof(bytes) ? (size_t)rest : sizeof(bytes);
+
+		copied = input_read(from, done, bytes, len) && output_put(stream, copy->path, done, bytes, len);
+		done += len;
+		if (done % SENT == 0)
+			output_sync(stream);
+		progress_at(&progress, done);
 	}
-	fclose(from);
-	if (copied != dump->size)
-		complain("%s: ends at offset %" PRIu64 " by now, expected %" PRIu64 " bytes", dump->path,
-			 copied, dump->size);
-	return copied == dump->size;
+	progress_end(&progress);
+	return copied;
 }
 
 /* Copies the dump and carries out the plan there: an erase makes every page of its block blank. */
@@ -41,7 +42,7 @@ static bool fill_copy(FILE *stream, const void *from)
 	const struct copy *copy = from;
 	uint8_t bytes[PAGE_BYTES];
 
-	if (!copy_as_it_is(stream, copy->dump))
+	if (!copy_as_it_is(stream, copy))
 		return false;
 	for (unsigned i = 0; i < copy->plan->count; i++) {
 		const struct ream_step step = plan_step(copy->plan, i);
@@ -54,30 +55,39 @@ static bool fill_copy(FILE *stream, const void *from)
 		else
 			plan_page(copy->plan, i, bytes);
 		for (unsigned page = step.page; page < step.page + pages; page++)
-			if (!file_put(stream, dump_offset(copy->dump, block, page), bytes, sizeof(bytes)))
+			if (!output_put(stream, copy->path, dump_offset(copy->dump, block, page), bytes,
+					sizeof(bytes)))
 				return false;
 	}
 	return true;
 }
 
-enum exit_status apply_plan(const struct applying *applying, const struct dump *dump, const struct plan *plan)
+bool apply_begin(struct application *application, const struct applying *applying, const struct dump *dump,
+		 const struct plan *plan)
 {
-	const struct copy copy = { dump, plan };
-	const char *const read[] = { dump->path, dump->status, NULL };
-	struct region after = dump->region;
-	const struct output outputs[] = {
-		{ "dump", applying->out, fill_copy, &copy },
-		{ "status file", applying->status_out, dump_fill_status, &after },
-	};
-	struct settled table;
-	unsigned refusal;
+	struct outputs *outputs = &application->outputs;
 
-	plan_carry_out(plan, &after);
-	if (!file_write_all(outputs, 2, read, applying->force))
-		return EXIT_WRONG;
-	refusal = table_read(&after, &table);
-	if (refusal != REAM_OK)
-		return print_refusal("pair", refusal);
-	table_print_pair(&table);
-	return EXIT_DONE;
+	application->copy = (struct copy){ dump, plan, applying->out };
+	application->after = dump->region;
+	plan_carry_out(plan, &application->after);
+	outputs->count = 0;
+	outputs_add(outputs, (struct output){ "dump", applying->out, fill_copy, &application->copy });
+	outputs_add(outputs, (struct output){ "status file", applying->status_out, status_fill,
+					      &application->after });
+	if (!pages_begin(&application->pages, applying->pages, plan, outputs))
+		return false;
+	if (outputs_begin(outputs, dump->read, dump->reads, applying->force))
+		return true;
+	pages_end(&application->pages, false);
+	return false;
+}
+
+bool apply_finish(struct application *application)
+{
+	return outputs_finish(&application->outputs);
+}
+
+void apply_end(struct application *application, bool written)
+{
+	pages_end(&application->pages, written);
 }

@@ -1,21 +1,44 @@
-/* A plan, carried out on a copy of the dump that it was made for. */
+/* A plan, carried out on a copy of the dump that it was made for, and its pages as files. */
 #ifndef APPLY_H
 #define APPLY_H
 
 #include <stdbool.h>
 
 #include "dump.h"
+#include "output.h"
+#include "pages.h"
 #include "plan.h"
-#include "tool.h"
 
-/* What is written. */
+/* What is asked for. */
 struct applying {
 	const char *out;	/* the copy of the dump; NULL where none is wanted */
 	const char *status_out;	/* the status file that belongs to it; NULL where none is wanted */
+	const char *pages;	/* the folder for the plan's pages; NULL where none are wanted */
 	bool force;		/* replaces files that are there already */
 };
 
-/* Carries the plan out, and prints the pair that is there then. */
-enum exit_status apply_plan(const struct applying *applying, const struct dump *dump, const struct plan *plan);
+/* What the copy is made from. */
+struct copy {
+	const struct dump *dump;
+	const struct plan *plan;
+	const char *path;
+};
+
+struct application {
+	struct copy copy;
+	struct pages pages;
+	struct outputs outputs;
+	struct region after;	/* the region with the plan carried out */
+};
+
+/* Judges what is asked for and begins its files; an application begun is finished or dropped. */
+bool apply_begin(struct application *application, const struct applying *applying, const struct dump *dump,
+		 const struct plan *plan);
+
+/* Writes the files. */
+bool apply_finish(struct application *application);
+
+/* Ends it, once what was written has been told. */
+void apply_end(struct application *application, bool written);
 
 #endif

@@ -2,7 +2,6 @@
 #include "look.h"
 
 #include <stdio.h>
-#include <string.h>
 
 static bool is_blank(const struct region *region, unsigned block, unsigned page)
 {
@@ -71,33 +70,66 @@ char look_letter(enum page_look page)
 	return letters[page];
 }
 
-void look_words(const struct look *look, char words[LOOK_LEN])
+/* A block in a word. */
+static const char *block_word(enum block_look block)
 {
-	char letters[MOST_PAGES + 1] = "";
+	static const char *const words[] = {
+		[BLOCK_PRIMARY] = "primary", [BLOCK_MIRROR] = "mirror", [BLOCK_ERASED] = "erased",
+		[BLOCK_UNREADABLE] = "unreadable", [BLOCK_BAD] = "bad", [BLOCK_PARTLY] = "partly",
+		[BLOCK_OTHER] = "other",
+	};
 
+	return words[block];
+}
+
+static bool is_copy(const struct look *look)
+{
+	return look->block == BLOCK_PRIMARY || look->block == BLOCK_MIRROR;
+}
+
+static void page_letters(const struct look *look, char letters[MOST_PAGES + 1])
+{
 	for (unsigned page = 0; page < look->pages; page++)
 		letters[page] = look_letter(look->page[page]);
-	switch (look->block) {
-	case BLOCK_PRIMARY:
-		snprintf(words, LOOK_LEN, "primary v%u", look->version[0]);
-		break;
-	case BLOCK_MIRROR:
-		snprintf(words, LOOK_LEN, "mirror v%u", look->version[0]);
-		break;
-	case BLOCK_ERASED:
-		strcpy(words, "erased");
-		break;
-	case BLOCK_UNREADABLE:
-		strcpy(words, "unreadable");
-		break;
-	case BLOCK_BAD:
-		strcpy(words, "bad");
-		break;
-	case BLOCK_PARTLY:
-		snprintf(words, LOOK_LEN, "partly %s", letters);
-		break;
-	case BLOCK_OTHER:
-		strcpy(words, "other");
-		break;
-	}
+	letters[look->pages] = '\0';
+}
+
+/* A block in words, with letters before the version of a copy. */
+static void put_words(const struct look *look, const char *version, char words[LOOK_LEN])
+{
+	const char *word = block_word(look->block);
+	char letters[MOST_PAGES + 1];
+
+	page_letters(look, letters);
+	if (is_copy(look))
+		snprintf(words, LOOK_LEN, "%s %s%u", word, version, look->version[0]);
+	else if (look->block == BLOCK_PARTLY)
+		snprintf(words, LOOK_LEN, "%s %s", word, letters);
+	else
+		snprintf(words, LOOK_LEN, "%s", word);
+}
+
+void look_words(const struct look *look, char words[LOOK_LEN])
+{
+	put_words(look, "v", words);
+}
+
+void look_brief(const struct look *look, char words[LOOK_LEN])
+{
+	put_words(look, "", words);
+}
+
+void look_write(struct json *json, const struct region *region, unsigned block)
+{
+	const struct look look = look_at(region, block);
+	char letters[MOST_PAGES + 1];
+
+	page_letters(&look, letters);
+	json_object(json, NULL);
+	json_number(json, "block", region->n - REGION_BLOCKS + block);
+	json_text(json, "holds", block_word(look.block));
+	if (is_copy(&look))
+		json_number(json, "version", look.version[0]);
+	json_text(json, "pages", letters);
+	json_end(json);
 }

@@ -4,6 +4,7 @@
 
 #include <stdint.h>
 
+#include "json.h"
 #include "region.h"
 
 /* A page. Of the marks only that of a block readable as bad is told, on its first page. */
@@ -35,7 +36,12 @@ struct look look_at(const struct region *region, unsigned block);
 /* A letter for a page, as the words of a block that is partly written have it: P, M, -, x, B or ?. */
 char look_letter(enum page_look page);
 
-/* A block in words: "primary v5", "partly PP-x". */
+/* A block in words: "primary v5", "partly PP-x". In brief, at most 11 letters, a copy has its version alone after
+ * its kind: "primary 5". */
 void look_words(const struct look *look, char words[LOOK_LEN]);
+void look_brief(const struct look *look, char words[LOOK_LEN]);
+
+/* Writes what a block of the region holds. */
+void look_write(struct json *json, const struct region *region, unsigned block);
 
 #endif

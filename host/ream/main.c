@@ -10,18 +10,20 @@
 static const char help[] =
 	"usage: ream COMMAND [OPTIONS] [FILE]\n"
 	"\n"
-	"Reads dumps of the two NAND chips of an uplink blade through the Reamsickle library.\n"
+	"Reads dumps of the two NAND chips of an uplink blade through the Reamsickle\n"
+	"library.\n"
 	"\n"
 	"  pair      reads the pair of bad-block tables in a dump of the large chip\n"
-	"  update    plans an update of the tables, and can carry it out on a copy of the dump\n"
-	"  recover   plans a recovery of the tables, and can carry it out on a copy of the dump\n"
+	"  update    plans an update of the tables, and can carry it out on a copy\n"
+	"  recover   plans a recovery of the tables, and can do so too\n"
 	"  page      reads a page of the small chip, with repair\n"
 	"  simulate  shows a history with power cuts, as text and as a picture\n"
 	"\n"
-	"ream COMMAND --help tells of a command; ream --version prints the version.\n"
-	"Exit status: 0 done, 1 refused by the library, 2 an argument or a file is wrong.\n";
+	"ream COMMAND --help and ream help COMMAND tell of a command, ream --version the\n"
+	"version. Exit status: 0 done, 1 refused by the library, 2 an argument or a file\n"
+	"is wrong.\n";
 
-static const struct {
+static const struct command {
 	const char *name;
 	enum exit_status (*run)(int argc, char **argv);
 } commands[] = {
@@ -50,25 +52,66 @@ enum exit_status print_refusal(const char *what, unsigned refusal)
 	return EXIT_REFUSED;
 }
 
+void write_refusal(struct json *json, unsigned refusal)
+{
+	if (refusal == REAM_OK) {
+		json_null(json, "refusal");
+		return;
+	}
+	json_object(json, "refusal");
+	json_number(json, "number", refusal);
+	json_text(json, "text", ream_refusal_text(refusal));
+	json_end(json);
+}
+
+const char *plural(uint64_t number)
+{
+	return number == 1 ? "" : "s";
+}
+
+static const struct command *find(const char *name)
+{
+	for (unsigned i = 0; i < sizeof(commands) / sizeof(commands[0]); i++)
+		if (strcmp(name, commands[i].name) == 0)
+			return &commands[i];
+	complain("%s: no such command; expected pair, update, recover, page or simulate (ream --help)", name);
+	return NULL;
+}
+
+static enum exit_status print_help(void)
+{
+	fputs(help, stdout);
+	return EXIT_DONE;
+}
+
+/* Prints the help of a command, as its own --help does. */
+static enum exit_status help_with(char *name)
+{
+	const struct command *command = find(name);
+	char option[] = "--help";
+	char *argv[] = { name, option, NULL };
+
+	return command ? command->run(2, argv) : EXIT_WRONG;
+}
+
 static enum exit_status run(int argc, char **argv)
 {
+	const struct command *command;
+
 	if (argc < 2) {
 		complain("no command; expected pair, update, recover, page or simulate (ream --help)");
 		return EXIT_WRONG;
 	}
-	if (strcmp(argv[1], "--help") == 0) {
-		fputs(help, stdout);
-		return EXIT_DONE;
-	}
+	if (strcmp(argv[1], "help") == 0 && argc > 2)
+		return help_with(argv[2]);
+	if (strcmp(argv[1], "--help") == 0 || strcmp(argv[1], "-h") == 0 || strcmp(argv[1], "help") == 0)
+		return print_help();
 	if (strcmp(argv[1], "--version") == 0) {
 		puts("ream " REAM_LIBRARY_VERSION " (Reamsickle)");
 		return EXIT_DONE;
 	}
-	for (unsigned i = 0; i < sizeof(commands) / sizeof(commands[0]); i++)
-		if (strcmp(argv[1], commands[i].name) == 0)
-			return commands[i].run(argc - 2, argv + 2);
-	complain("%s: no such command; expected pair, update, recover, page or simulate (ream --help)", argv[1]);
-	return EXIT_WRONG;
+	command = find(argv[1]);
+	return command ? command->run(argc - 1, argv + 1) : EXIT_WRONG;
 }
 
 int main(int argc, char **argv)

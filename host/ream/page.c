@@ -5,12 +5,14 @@
 #include <string.h>
 
 #include "args.h"
-#include "file.h"
+#include "input.h"
+#include "json.h"
+#include "output.h"
 #include "reamsickle.h"
 #include "tool.h"
 
 static const char help[] =
-	"usage: ream page [--repaired OUT] [--force] FILE\n"
+	"usage: ream page [--repaired OUT] [--force] [--json] FILE\n"
 	"\n"
 	"Reads a page of the small chip: status, tag, path, erase count, and what was\n"
 	"repaired. A page that cannot be read is refused, with exit status 1.\n"
@@ -18,16 +20,21 @@ static const char help[] =
 	"  --repaired OUT   writes the page as it was meant: its data repaired, and the\n"
 	"                   spare that belongs to it\n"
 	"  --force          replaces OUT if it is there already\n"
-	"  FILE             528 bytes, 512 of data and 16 of spare\n";
+	"  --json           answers in JSON\n"
+	"  FILE             528 bytes, 512 of data and 16 of spare; - is the standard\n"
+	"                   input\n";
 
 enum { DATA = REAM_SMALL_DATA_SIZE, SPARE = REAM_SMALL_SPARE_SIZE, PAGE = DATA + SPARE };
 
 /* A page as it was found, and as it was meant. */
 struct reading {
+	struct file_id file;
 	uint8_t found[PAGE];
 	uint8_t meant[PAGE];
+	uint64_t answer;
 	bool meant_known;	/* not of a count that can be read but not written */
 	struct ream_fields fields;
+	struct outputs outputs;
 };
 
 /* ---- what was repaired */
@@ -77,6 +84,16 @@ static void print_repairs(const struct reading *reading)
 	printf("%s\n", before[0] == ',' ? ")" : "");
 }
 
+static void write_repairs(struct json *json, const struct reading *reading)
+{
+	json_number(json, "repairs", reading->fields.repairs);
+	json_list(json, "repaired");
+	for (unsigned i = 0; i < sizeof(parts) / sizeof(parts[0]) && reading->meant_known; i++)
+		if (was_repaired(reading, &parts[i]))
+			json_text(json, NULL, parts[i].name);
+	json_end(json);
+}
+
 /* ---- fields */
 
 static const char *tag_words(uint8_t tag)
@@ -99,19 +116,41 @@ static const char *tag_words(uint8_t tag)
 	}
 }
 
+static bool is_boot(const struct ream_fields *fields)
+{
+	return fields->tag == REAM_TAG_BOOT || fields->tag == REAM_TAG_BOOT_COPYING;
+}
+
 static void print_fields(const struct reading *reading)
 {
 	const struct ream_fields *fields = &reading->fields;
 
 	printf("status: %02X, good\n", fields->status);
 	printf("tag: %02X, %s\n", fields->tag, tag_words(fields->tag));
-	if (fields->tag == REAM_TAG_BOOT || fields->tag == REAM_TAG_BOOT_COPYING)
+	if (is_boot(fields))
 		printf("path: %" PRIu32 ", boot number %" PRIu32 ", generation %" PRIu32 "\n", fields->path,
 		       fields->path / 4, fields->path % 4);
 	else
 		printf("path: %" PRIu32 "\n", fields->path);
-	printf("count: %" PRIu32 " erases\n", fields->count);
+	printf("count: %" PRIu32 " erase%s\n", fields->count, plural(fields->count));
 	print_repairs(reading);
+}
+
+static void write_fields(struct json *json, const struct reading *reading)
+{
+	const struct ream_fields *fields = &reading->fields;
+
+	json_number(json, "status", fields->status);
+	json_number(json, "tag", fields->tag);
+	json_text(json, "tag_name", tag_words(fields->tag));
+	json_number(json, "path", fields->path);
+	if (is_boot(fields)) {
+		json_number(json, "boot_number", fields->path / 4);
+		json_number(json, "generation", fields->path % 4);
+	}
+	json_number(json, "count", fields->count);
+	write_repairs(json, reading);
+	outputs_write(json, &reading->outputs);
 }
 
 /* ---- refusals */
@@ -124,51 +163,73 @@ static bool is_erased(const uint8_t *page)
 	return true;
 }
 
-static enum exit_status print_page_refusal(const struct reading *reading, uint64_t answer)
+enum { DETAIL_LEN = 64 };
+
+/* What a refusal is about, in words. */
+static void refusal_detail(const struct reading *reading, char words[DETAIL_LEN])
 {
 	const uint8_t *spare = reading->found + DATA;
+	const unsigned detail = ream_detail(reading->answer);
 
-	print_refusal("page", ream_refusal(answer));
-	switch (ream_refusal(answer)) {
+	words[0] = '\0';
+	switch (ream_refusal(reading->answer)) {
 	case REAM_BAD_BLOCK:
-		printf("  status byte %02X: %s\n", spare[5], ream_detail(answer) == REAM_FACTORY
-		       ? "marked by the factory" : "went bad in use (late)");
+		snprintf(words, DETAIL_LEN, "status byte %02X: %s", spare[5],
+			 detail == REAM_FACTORY ? "marked by the factory" : "went bad in use (late)");
 		break;
 	case REAM_TAG:
-		printf("  tag byte %02X\n", spare[4]);
+		snprintf(words, DETAIL_LEN, "tag byte %02X", spare[4]);
 		break;
 	case REAM_MAGIC:
-		printf("  %s\n", is_erased(reading->found) ? "the page is erased, all FF"
-		       : "expected 56 in spare byte 6, or one bit from it");
+		snprintf(words, DETAIL_LEN, "%s", is_erased(reading->found) ? "the page is erased, all FF"
+			 : "expected 56 in spare byte 6, or one bit from it");
 		break;
 	case REAM_UNREPAIRABLE:
-		printf("  %s\n", ream_detail(answer) == REAM_FIRST_HALF ? "the first half, bytes 0-255"
-		       : "the second half, bytes 256-511");
+		snprintf(words, DETAIL_LEN, "%s", detail == REAM_FIRST_HALF ? "the first half, bytes 0-255"
+			 : "the second half, bytes 256-511");
 		break;
 	default:
 		break;
 	}
+}
+
+/* Tells why the page is refused. */
+static enum exit_status tell_refusal(const struct reading *reading, bool as_json)
+{
+	char detail[DETAIL_LEN];
+	struct json json;
+
+	refusal_detail(reading, detail);
+	if (!as_json) {
+		print_refusal("page", ream_refusal(reading->answer));
+		printf("  %s\n", detail);
+		return EXIT_REFUSED;
+	}
+	json = json_begin(stdout);
+	json_text(&json, "command", "page");
+	write_refusal(&json, ream_refusal(reading->answer));
+	json_text(&json, "detail", detail);
+	json_end(&json);
 	return EXIT_REFUSED;
 }
 
 /* ---- the command */
 
 /* Reads the page as it was meant: its data repaired by the library, and its spare written anew. */
-static uint64_t read_page(struct reading *reading)
+static void read_page(struct reading *reading)
 {
 	uint8_t *data = reading->meant, *spare = reading->meant + DATA;
 	uint8_t fields[REAM_FIELDS_SIZE];
-	uint64_t answer, written;
+	uint64_t written;
 
 	memcpy(reading->meant, reading->found, PAGE);
-	answer = ream_page_read(data, DATA, spare, SPARE, fields, sizeof(fields));
-	if (ream_refusal(answer) != REAM_OK)
-		return answer;
+	reading->answer = ream_page_read(data, DATA, spare, SPARE, fields, sizeof(fields));
+	if (ream_refusal(reading->answer) != REAM_OK)
+		return;
 	reading->fields = ream_fields_get(fields);
 	written = ream_spare_write(data, DATA, reading->fields.tag, reading->fields.path, reading->fields.count,
 				   spare, SPARE);
 	reading->meant_known = ream_refusal(written) == REAM_OK;
-	return answer;
 }
 
 static bool fill_page(FILE *stream, const void *from)
@@ -177,18 +238,40 @@ static bool fill_page(FILE *stream, const void *from)
 	return true;
 }
 
-static enum exit_status write_repaired(const struct reading *reading, const char *file, const char *path,
-				       bool force)
+/* Tells the page's fields, and what was written; `refusal` is that of the page to write. */
+static void tell(const struct reading *reading, unsigned refusal, bool as_json)
 {
-	const struct output output = { "page", path, fill_page, reading->meant };
-	const char *const read[] = { file, NULL };
+	struct json json;
 
-	if (!reading->meant_known) {
-		printf("not written: a count of %" PRIu32 " can be read, but the most that is written is %d\n",
-		       reading->fields.count, REAM_COUNT_MAX);
-		return print_refusal("repaired page", REAM_RANGE);
+	if (as_json) {
+		json = json_begin(stdout);
+		json_text(&json, "command", "page");
+		write_refusal(&json, refusal);
+		write_fields(&json, reading);
+		json_end(&json);
+		return;
 	}
-	return file_write_all(&output, 1, read, force) ? EXIT_DONE : EXIT_WRONG;
+	print_fields(reading);
+	outputs_print(&reading->outputs);
+	if (refusal == REAM_OK)
+		return;
+	printf("not written: a count of %" PRIu32 " can be read, but at most %d is written\n",
+	       reading->fields.count, REAM_COUNT_MAX);
+	print_refusal("repaired page", refusal);
+}
+
+/* Writes the page as it was meant, if that is asked for, and tells it. */
+static enum exit_status write_and_tell(struct reading *reading, const char *repaired, bool force, bool as_json)
+{
+	if (repaired && !reading->meant_known) {
+		tell(reading, REAM_RANGE, as_json);
+		return EXIT_REFUSED;
+	}
+	outputs_add(&reading->outputs, (struct output){ "page", repaired, fill_page, reading->meant });
+	if (!outputs_begin(&reading->outputs, &reading->file, 1, force) || !outputs_finish(&reading->outputs))
+		return EXIT_WRONG;
+	tell(reading, REAM_OK, as_json);
+	return EXIT_DONE;
 }
 
 enum exit_status page_command(int argc, char **argv)
@@ -196,20 +279,20 @@ enum exit_status page_command(int argc, char **argv)
 	struct syntax syntax = { .command = "page", .help = help, .file = "FILE" };
 	const char *file, *repaired = NULL;
 	struct reading reading;
-	bool force = false;
+	bool force = false, json = false;
 	enum parsed parsed;
-	uint64_t answer;
 
-	args_add(&syntax, (struct option){ .name = "--repaired", .text = &repaired });
-	args_add(&syntax, (struct option){ .name = "--force", .flag = &force });
+	args_add(&syntax, (struct argument){ .name = "repaired", .text = &repaired });
+	args_add(&syntax, (struct argument){ .name = "force", .flag = &force });
+	args_add(&syntax, (struct argument){ .name = "json", .flag = &json });
 	parsed = args_parse(&syntax, argc, argv, &file);
 	if (parsed != PARSED)
 		return parsed == PARSED_HELP ? EXIT_DONE : EXIT_WRONG;
-	if (!file_read_whole(file, reading.found, PAGE, "512 of data and 16 of spare"))
+	reading.outputs.count = 0;
+	if (!input_read_whole(file, reading.found, PAGE, "512 of data and 16 of spare", &reading.file))
 		return EXIT_WRONG;
-	answer = read_page(&reading);
-	if (ream_refusal(answer) != REAM_OK)
-		return print_page_refusal(&reading, answer);
-	print_fields(&reading);
-	return repaired ? write_repaired(&reading, file, repaired, force) : EXIT_DONE;
+	read_page(&reading);
+	if (ream_refusal(reading.answer) != REAM_OK)
+		return tell_refusal(&reading, json);
+	return write_and_tell(&reading, repaired, force, json);
 }

@@ -2,29 +2,56 @@
 #include <inttypes.h>
 #include <stdio.h>
 
+#include "differ.h"
 #include "dump.h"
+#include "geometry.h"
+#include "json.h"
+#include "linux.h"
 #include "look.h"
+#include "notes.h"
 #include "plan.h"
+#include "steps.h"
 #include "table.h"
 #include "tool.h"
 
 static const char help[] =
-	"usage: ream pair [--blocks N] [--pages-per-block K] [--status FILE] DUMP\n"
+	"usage: ream pair [--blocks N] [--pages-per-block K] [--status FILE]\n"
+	"                 [--unreadable B:P,..] [--json] DUMP\n"
 	"\n"
-	"Reads the pair of bad-block tables in a dump of the large chip: its version, the\n"
-	"blocks of both copies, how many entries there are of each kind, and the blocks\n"
-	"that are not good. If the pair cannot be read, says why and what a recovery would\n"
-	"do, and exits with 1.\n"
+	"Reads the pair of bad-block tables in a dump of the large chip: its version,\n"
+	"the blocks of both copies, how many entries there are of each kind, and the\n"
+	"blocks that are not good. If the pair cannot be read, says why and what a\n"
+	"recovery would do, and exits with 1.\n"
 	"\n"
 	DUMP_HELP;
 
-static void print_chip(const struct dump *dump)
-{
-	const struct region *region = &dump->region;
+/* What is found in a dump. */
+struct finding {
+	struct dump dump;
+	struct settled table;
+	unsigned refusal;	/* of reading it */
+	struct plan recovery;	/* where it is refused */
+	unsigned recovery_refusal;
+	struct notes warnings, notes;
+};
 
-	printf("chip: %" PRIu64 " blocks; a copy of the table fills %u page%s; dump of %s\n", region->n,
-	       region->pages, region->pages == 1 ? "" : "s",
-	       dump->whole ? "the whole chip" : "the last four blocks");
+static void find(struct finding *finding)
+{
+	const struct region *region = &finding->dump.region;
+
+	finding->refusal = table_read(region, &finding->table);
+	finding->recovery_refusal = plan_make(&finding->recovery, region, NULL);
+	finding->warnings.count = finding->notes.count = 0;
+	geometry_doubt(&finding->dump, &finding->warnings);
+	linux_look_at_pages(region, finding->refusal, &finding->notes);
+	if (finding->refusal == REAM_OK)
+		linux_look_at_entries(&finding->table, region->n, &finding->notes);
+}
+
+/* ---- as text */
+
+static void print_region(const struct region *region)
+{
 	for (unsigned block = 0; block < REGION_BLOCKS; block++) {
 		const struct look look = look_at(region, block);
 		char words[LOOK_LEN];
@@ -45,56 +72,102 @@ static void print_one_copy(const struct plan *plan)
 	plan_carry_out(plan, &after);
 	made = region_good(&after, block, PRIMARY) ? "primary" : "mirror";
 	other = region_good(&after, block, PRIMARY) ? "mirror" : "primary";
-	printf("recovery: would erase block %u and write the %s there, from the %s, version %u; %u steps\n",
-	       step.block, made, other, plan->version, plan->count);
+	printf("recovery: would erase block %u and write the %s there\n", step.block, made);
+	printf("  from the %s, version %u; %u steps\n", other, plan->version, plan->count);
 }
 
-static void print_recovery(struct plan *plan, const struct region *region)
+static void print_recovery(const struct finding *finding)
 {
-	const unsigned refusal = plan_make(plan, region, NULL);
+	const struct plan *plan = &finding->recovery;
+	const struct region *region = &finding->dump.region;
 
-	if (refusal != REAM_OK)
-		print_refusal("recovery", refusal);
-	else if (plan->count == 0)
-		printf("recovery: would do nothing\n");
-	else if (plan->count == region->pages + 1)
+	if (finding->recovery_refusal != REAM_OK) {
+		print_refusal("recovery", finding->recovery_refusal);
+	} else if (plan->count == region->pages + 1) {
 		print_one_copy(plan);
-	else
-		printf("recovery: would merge both tables (AND) and write both copies, version %u; %u steps\n",
-		       plan->version, plan->count);
-}
-
-static enum exit_status print_pair(const struct dump *dump, struct plan *plan)
-{
-	struct settled table;
-	const unsigned refusal = table_read(&dump->region, &table);
-
-	print_chip(dump);
-	if (refusal != REAM_OK) {
-		print_refusal("pair", refusal);
-		print_recovery(plan, &dump->region);
-		return EXIT_REFUSED;
+	} else {
+		printf("recovery: would merge both tables (AND) and write both copies\n");
+		printf("  version %u; %u steps\n", plan->version, plan->count);
 	}
-	table_print_pair(&table);
-	table_print_counts(&table, dump->region.n);
-	table_print_runs(table.bitmap, dump->region.n, "");
-	return EXIT_DONE;
 }
+
+static void print_finding(const struct finding *finding)
+{
+	const struct region *region = &finding->dump.region;
+
+	dump_print(&finding->dump);
+	print_region(region);
+	if (finding->refusal == REAM_OK) {
+		table_print_pair(&finding->table);
+		table_print_entries(&finding->table, region->n);
+	} else {
+		print_refusal("pair", finding->refusal);
+		differ_print(region);
+		print_recovery(finding);
+	}
+	notes_print(&finding->notes, "note");
+}
+
+/* ---- as JSON */
+
+static void write_recovery(struct json *json, const struct finding *finding)
+{
+	json_object(json, "recovery");
+	write_refusal(json, finding->recovery_refusal);
+	if (finding->recovery_refusal == REAM_OK)
+		steps_write(json, &finding->recovery, finding->dump.pages_per_block, false);
+	json_end(json);
+}
+
+static void write_finding(const struct finding *finding)
+{
+	const struct region *region = &finding->dump.region;
+	struct json json = json_begin(stdout);
+
+	json_text(&json, "command", "pair");
+	dump_write(&json, &finding->dump);
+	notes_write(&json, "warnings", &finding->warnings);
+	notes_write(&json, "notes", &finding->notes);
+	json_list(&json, "region");
+	for (unsigned block = 0; block < REGION_BLOCKS; block++)
+		look_write(&json, region, block);
+	json_end(&json);
+	json_truth(&json, "settled", finding->refusal == REAM_OK);
+	write_refusal(&json, finding->refusal);
+	if (finding->refusal == REAM_OK) {
+		table_write_pair(&json, &finding->table);
+		table_write_entries(&json, &finding->table, region->n);
+	} else {
+		differ_write(&json, region);
+		write_recovery(&json, finding);
+	}
+	json_end(&json);
+}
+
+/* ---- the command */
 
 enum exit_status pair_command(int argc, char **argv)
 {
-	struct shape shape = dump_shape();
 	struct syntax syntax = { .command = "pair", .help = help, .file = "DUMP" };
-	struct dump dump;
-	struct plan plan;
+	struct finding finding;
+	struct shape shape;
 	const char *file;
+	bool json = false;
 	enum parsed parsed;
 
 	dump_options(&syntax, &shape);
+	args_add(&syntax, (struct argument){ .name = "json", .flag = &json });
 	parsed = args_parse(&syntax, argc, argv, &file);
 	if (parsed != PARSED)
 		return parsed == PARSED_HELP ? EXIT_DONE : EXIT_WRONG;
-	if (!dump_read(&dump, file, &shape))
+	if (!dump_read(&finding.dump, file, &shape))
 		return EXIT_WRONG;
-	return print_pair(&dump, &plan);
+	find(&finding);
+	dump_close(&finding.dump);
+	notes_warn(&finding.warnings);
+	if (json)
+		write_finding(&finding);
+	else
+		print_finding(&finding);
+	return finding.refusal == REAM_OK ? EXIT_DONE : EXIT_REFUSED;
 }

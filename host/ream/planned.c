@@ -1,194 +1,229 @@
-/* ream update and ream recover: a plan as a table, carried out on a copy of the dump if that is asked for. */
-#include <inttypes.h>
+/* ream update and ream recover: a plan, carried out on a copy of the dump if that is asked for. */
 #include <stdio.h>
-#include <string.h>
 
 #include "apply.h"
+#include "differ.h"
 #include "dump.h"
+#include "geometry.h"
+#include "json.h"
+#include "marks.h"
+#include "notes.h"
 #include "plan.h"
+#include "steps.h"
 #include "table.h"
 #include "tool.h"
 
 #define APPLY_HELP \
 	"  --apply OUT           carries the plan out on a copy of the dump, OUT\n" \
-	"  --status-out FILE     with --apply: writes the status file that belongs to OUT\n" \
+	"  --status-out FILE     with --apply: writes the status file that belongs to it\n" \
+	"  --pages DIR           writes the page of each step that writes one, as a file\n" \
+	"                        in the folder DIR\n" \
 	"  --force               replaces files that are there already\n" \
 	DUMP_HELP
 
 static const char update_help[] =
-	"usage: ream update --mark-late B,B,.. [--apply OUT [--status-out FILE]] [--force]\n"
-	"                   [--blocks N] [--pages-per-block K] [--status FILE] DUMP\n"
+	"usage: ream update --mark-late B,B,.. [--apply OUT [--status-out FILE]]\n"
+	"                   [--pages DIR] [--force] [--blocks N] [--pages-per-block K]\n"
+	"                   [--status FILE] [--unreadable B:P,..] [--json] DUMP\n"
 	"\n"
-	"Plans the update of a settled pair of bad-block tables that marks blocks as gone\n"
-	"bad in use. A block that is not good already keeps its entry. A pair that is not\n"
-	"settled is refused, with exit status 1.\n"
+	"Plans the update of a settled pair of bad-block tables that marks blocks as\n"
+	"gone bad in use. A block that is not good already keeps its entry. A pair that\n"
+	"is not settled is refused, with exit status 1.\n"
 	"\n"
-	"  --mark-late B,B,..    the chip blocks to mark, numbers or ranges as in 7,12-15\n"
+	"  --mark-late B,B,..    the chip blocks to mark, numbers or ranges as in\n"
+	"                        7,12-15; given several times, all of them are marked\n"
 	APPLY_HELP;
 
 static const char recover_help[] =
-	"usage: ream recover [--apply OUT [--status-out FILE]] [--force]\n"
-	"                    [--blocks N] [--pages-per-block K] [--status FILE] DUMP\n"
+	"usage: ream recover [--apply OUT [--status-out FILE]] [--pages DIR] [--force]\n"
+	"                    [--blocks N] [--pages-per-block K] [--status FILE]\n"
+	"                    [--unreadable B:P,..] [--json] DUMP\n"
 	"\n"
 	"Plans the recovery of a pair of bad-block tables, as after a power cut. Where\n"
 	"there is nothing to recover from, or to, it is refused, with exit status 1.\n"
 	"\n"
 	APPLY_HELP;
 
-/* What both commands are asked for. */
-struct order {
+/* What a command is asked for, and what it comes to. */
+struct job {
+	const char *command;
 	struct shape shape;
 	struct applying applying;
-	const char *mark_late;
+	struct texts mark_late;
+	bool json;
+	struct dump dump;
+	struct notes warnings;
+	struct plan plan;
+	unsigned refusal;
+	struct settled table;	/* before an update */
+	struct application application;
 };
 
-/* ---- the wanted bitmap */
-
-/* Takes one block or range of the list, and gives what follows it; NULL, with a complaint, where it is wrong. */
-static const char *take_range(const char *text, uint64_t n, uint64_t *first, uint64_t *last)
-{
-	const char *end = args_number(text, first);
-
-	*last = *first;
-	if (end && *end == '-')
-		end = args_number(end + 1, last);
-	if (!end || (*end != ',' && *end != '\0') || *first > *last) {
-		complain("update: --mark-late %s: expected blocks or ranges with commas, as in 7,12-15", text);
-		return NULL;
-	}
-	if (*last >= n) {
-		complain("update: --mark-late %" PRIu64 ": expected a block from 0 to %" PRIu64 " (%s)", *last,
-			 n - 1, REFUSED_RANGE);
-		return NULL;
-	}
-	return end;
-}
-
-/* Wants the listed blocks late and all others good, so that they stay as they are. */
-static bool want_late(const char *list, uint64_t n, uint8_t *wanted)
-{
-	memset(wanted, 0xFF, ream_bitmap_size(n));
-	for (;;) {
-		uint64_t first = 0, last;
-		const char *end = take_range(list, n, &first, &last);
-
-		if (!end)
-			return false;
-		for (uint64_t block = first; block <= last; block++)
-			ream_entry_set(wanted, block, REAM_ENTRY_LATE);
-		if (*end == '\0')
-			return true;
-		list = end + 1;
-	}
-}
-
-/* Says which of the wanted blocks keep the entry that they have. */
-static void print_kept(const struct settled *table, const uint8_t *wanted, uint64_t n)
-{
-	uint8_t kept[MOST_BITMAP];
-
-	memset(kept, 0xFF, sizeof(kept));
-	for (uint64_t block = 0; block < n; block++)
-		if (ream_entry_get(wanted, block) != REAM_ENTRY_GOOD)
-			ream_entry_set(kept, block, ream_entry_get(table->bitmap, block));
-	table_print_runs(kept, n, " already, and stays so");
-}
-
-/* ---- the plan */
-
-static void print_plan(const char *name, const struct plan *plan)
-{
-	if (plan->count == 0) {
-		printf("%s: nothing to do, the table keeps version %u\n", name, plan->version);
-		return;
-	}
-	printf("%s: %u steps, to version %u\n", name, plan->count, plan->version);
-	printf("  step  does   block  page\n");
-	for (unsigned i = 0; i < plan->count; i++) {
-		const struct ream_step step = plan_step(plan, i);
-
-		if (step.kind == REAM_ERASE)
-			printf("  %4u  erase  %5u     -\n", i, step.block);
-		else
-			printf("  %4u  write  %5u  %4u\n", i, step.block, step.page);
-	}
-}
-
-/* ---- the commands */
-
 /* Takes the arguments, and reads the dump. */
-static enum parsed take(struct syntax *syntax, int argc, char **argv, struct order *order, struct dump *dump)
+static enum parsed take(struct job *job, struct syntax *syntax, int argc, char **argv)
 {
 	const char *file;
 	enum parsed parsed;
 
-	order->shape = dump_shape();
-	dump_options(syntax, &order->shape);
-	args_add(syntax, (struct option){ .name = "--apply", .text = &order->applying.out });
-	args_add(syntax, (struct option){ .name = "--status-out", .text = &order->applying.status_out });
-	args_add(syntax, (struct option){ .name = "--force", .flag = &order->applying.force });
+	job->command = syntax->command;
+	dump_options(syntax, &job->shape);
+	args_add(syntax, (struct argument){ .name = "apply", .text = &job->applying.out });
+	args_add(syntax, (struct argument){ .name = "status-out", .text = &job->applying.status_out });
+	args_add(syntax, (struct argument){ .name = "pages", .text = &job->applying.pages });
+	args_add(syntax, (struct argument){ .name = "force", .flag = &job->applying.force });
+	args_add(syntax, (struct argument){ .name = "json", .flag = &job->json });
 	parsed = args_parse(syntax, argc, argv, &file);
 	if (parsed != PARSED)
 		return parsed;
-	if (order->applying.status_out && !order->applying.out) {
-		complain("%s: --status-out: expected --apply beside it", syntax->command);
+	if (job->applying.status_out && !job->applying.out) {
+		complain("%s: --status-out: expected --apply beside it", job->command);
 		return PARSED_WRONG;
 	}
-	return dump_read(dump, file, &order->shape) ? PARSED : PARSED_WRONG;
+	return dump_read(&job->dump, file, &job->shape) ? PARSED : PARSED_WRONG;
 }
 
-static enum exit_status print_update_refusal(unsigned refusal)
+/* ---- what is told */
+
+/* What stands before the plan, or before its refusal. */
+static void print_before(const struct job *job)
 {
-	print_refusal("update", refusal);
-	if (refusal == REAM_NOT_SETTLED)
+	dump_print(&job->dump);
+	if (job->refusal != REAM_OK)
+		print_refusal(job->command, job->refusal);
+	else if (job->plan.updates)
+		marks_print(job->table.bitmap, job->plan.wanted, job->dump.region.n);
+	else
+		differ_print(&job->dump.region);
+	if (job->plan.updates && job->refusal == REAM_NOT_SETTLED)
 		printf("  a recovery comes first (ream recover)\n");
-	return EXIT_REFUSED;
+}
+
+/* What was written, and the pair that is there then. */
+static void print_after(const struct job *job)
+{
+	struct settled table;
+
+	outputs_print(&job->application.outputs);
+	if (!job->applying.out)
+		return;
+	if (table_read(&job->application.after, &table) == REAM_OK)
+		table_print_pair(&table);
+}
+
+static void write_after(struct json *json, const struct job *job)
+{
+	struct settled table;
+
+	outputs_write(json, &job->application.outputs);
+	if (table_read(&job->application.after, &table) != REAM_OK)
+		return;
+	json_object(json, "after");
+	table_write_pair(json, &table);
+	json_end(json);
+}
+
+static void write_job(const struct job *job)
+{
+	struct json json = json_begin(stdout);
+
+	json_text(&json, "command", job->command);
+	dump_write(&json, &job->dump);
+	notes_write(&json, "warnings", &job->warnings);
+	write_refusal(&json, job->refusal);
+	if (job->refusal == REAM_OK) {
+		if (job->plan.updates)
+			marks_write(&json, job->table.bitmap, job->plan.wanted, job->dump.region.n);
+		else
+			differ_write(&json, &job->dump.region);
+		steps_write(&json, &job->plan, job->dump.pages_per_block, job->applying.pages != NULL);
+		write_after(&json, job);
+	}
+	json_end(&json);
+}
+
+/* ---- the commands */
+
+/* Tells the plan, with its files begun, and writes them. */
+static bool carry_out(struct job *job)
+{
+	if (!job->json) {
+		print_before(job);
+		steps_print(job->command, &job->plan, job->dump.pages_per_block, job->applying.pages != NULL);
+		fflush(stdout);
+	}
+	if (!apply_finish(&job->application))
+		return false;
+	if (job->json)
+		write_job(job);
+	else
+		print_after(job);
+	return true;
+}
+
+/* Makes the plan, to a wanted bitmap or of a recovery, tells it and carries it out. */
+static enum exit_status plan_and_tell(struct job *job, const uint8_t *wanted)
+{
+	bool written;
+
+	geometry_doubt(&job->dump, &job->warnings);
+	job->refusal = plan_make(&job->plan, &job->dump.region, wanted);
+	if (job->refusal != REAM_OK) {
+		notes_warn(&job->warnings);
+		if (job->json)
+			write_job(job);
+		else
+			print_before(job);
+		return EXIT_REFUSED;
+	}
+	table_read(&job->dump.region, &job->table);
+	if (!apply_begin(&job->application, &job->applying, &job->dump, &job->plan))
+		return EXIT_WRONG;
+	notes_warn(&job->warnings);
+	written = carry_out(job);
+	apply_end(&job->application, written);
+	return written ? EXIT_DONE : EXIT_WRONG;
+}
+
+/* Finds the wanted bitmap of an update, and plans it. */
+static enum exit_status update(struct job *job)
+{
+	uint8_t wanted[MOST_BITMAP];
+
+	if (job->mark_late.count == 0) {
+		complain("update: expected --mark-late with the blocks to mark");
+		return EXIT_WRONG;
+	}
+	if (!marks_want(&job->mark_late, job->dump.region.n, wanted))
+		return EXIT_WRONG;
+	return plan_and_tell(job, wanted);
 }
 
 enum exit_status update_command(int argc, char **argv)
 {
 	struct syntax syntax = { .command = "update", .help = update_help, .file = "DUMP" };
-	struct order order = { .mark_late = NULL };
-	struct dump dump;
-	struct plan plan;
-	struct settled table;
-	uint8_t wanted[MOST_BITMAP];
+	struct job job = { .json = false };
 	enum parsed parsed;
-	unsigned refusal;
+	enum exit_status status;
 
-	args_add(&syntax, (struct option){ .name = "--mark-late", .text = &order.mark_late });
-	parsed = take(&syntax, argc, argv, &order, &dump);
+	args_add(&syntax, (struct argument){ .name = "mark-late", .texts = &job.mark_late });
+	parsed = take(&job, &syntax, argc, argv);
 	if (parsed != PARSED)
 		return parsed == PARSED_HELP ? EXIT_DONE : EXIT_WRONG;
-	if (!order.mark_late) {
-		complain("update: expected --mark-late with the blocks to mark");
-		return EXIT_WRONG;
-	}
-	if (!want_late(order.mark_late, dump.region.n, wanted))
-		return EXIT_WRONG;
-	refusal = plan_make(&plan, &dump.region, wanted);
-	if (refusal != REAM_OK)
-		return print_update_refusal(refusal);
-	if (table_read(&dump.region, &table) == REAM_OK)
-		print_kept(&table, wanted, dump.region.n);
-	print_plan("update", &plan);
-	return order.applying.out ? apply_plan(&order.applying, &dump, &plan) : EXIT_DONE;
+	status = update(&job);
+	dump_close(&job.dump);
+	return status;
 }
 
 enum exit_status recover_command(int argc, char **argv)
 {
 	struct syntax syntax = { .command = "recover", .help = recover_help, .file = "DUMP" };
-	struct order order = { .mark_late = NULL };
-	struct dump dump;
-	struct plan plan;
-	const enum parsed parsed = take(&syntax, argc, argv, &order, &dump);
-	unsigned refusal;
+	struct job job = { .json = false };
+	const enum parsed parsed = take(&job, &syntax, argc, argv);
+	enum exit_status status;
 
 	if (parsed != PARSED)
 		return parsed == PARSED_HELP ? EXIT_DONE : EXIT_WRONG;
-	refusal = plan_make(&plan, &dump.region, NULL);
-	if (refusal != REAM_OK)
-		return print_refusal("recover", refusal);
-	print_plan("recover", &plan);
-	return order.applying.out ? apply_plan(&order.applying, &dump, &plan) : EXIT_DONE;
+	status = plan_and_tell(&job, NULL);
+	dump_close(&job.dump);
+	return status;
 }

@@ -1,14 +1,12 @@
 /* ream simulate: a story with power cuts, as text, and as a picture or a dump if that is asked for. */
-#define _POSIX_C_SOURCE 200809L
-
 #include <inttypes.h>
 #include <stdio.h>
 #include <stdlib.h>
-#include <unistd.h>
 
 #include "args.h"
 #include "dump.h"
-#include "file.h"
+#include "output.h"
+#include "status.h"
 #include "story.h"
 #include "svg.h"
 #include "timeline.h"
@@ -21,14 +19,14 @@ static const char help[] =
 	"\n"
 	"Runs a history of updates, power cuts and recoveries on a chip in memory and\n"
 	"prints what the last four blocks hold after each event, and after each finished\n"
-	"recovery which table was kept. The same seed gives the same history. Every event\n"
-	"is judged; a broken rule ends the history, with exit status 1.\n"
+	"recovery which table was kept. The same seed gives the same history. Every\n"
+	"event is judged; a broken rule ends the history, with exit status 1.\n"
 	"\n"
-	"  --blocks N            the chip's blocks, a multiple of 4 from 8 to 32768; 1024\n"
-	"                        if not told\n"
+	"  --blocks N            the chip's blocks, a multiple of 4 from 8 to 32768;\n"
+	"                        1024 if not told\n"
 	"  --seed S              1 if not told\n"
-	"  --events E            from 1 to 100000, 20 if not told; then what is begun goes\n"
-	"                        on to its end, without a cut\n"
+	"  --events E            from 1 to 100000, 20 if not told; then what is begun\n"
+	"                        goes on to its end, without a cut\n"
 	"  --stop                stops after these events, with the chip as it is\n"
 	"  --svg FILE            draws the history, of at most 1000 events\n"
 	"  --dump OUT            writes the last four blocks as they are at the end, as\n"
@@ -52,14 +50,14 @@ static enum parsed take(struct order *order, int argc, char **argv)
 	enum parsed parsed;
 
 	dump_blocks_option(&syntax, &order->blocks);
-	args_add(&syntax, (struct option){ .name = "--seed", .number = &order->seed, .most = UINT64_MAX });
-	args_add(&syntax, (struct option){ .name = "--events", .number = &order->events, .least = 1,
+	args_add(&syntax, (struct argument){ .name = "seed", .number = &order->seed, .most = UINT64_MAX });
+	args_add(&syntax, (struct argument){ .name = "events", .number = &order->events, .least = 1,
 					   .most = MOST_EVENTS });
-	args_add(&syntax, (struct option){ .name = "--stop", .flag = &order->stop });
-	args_add(&syntax, (struct option){ .name = "--svg", .text = &order->svg });
-	args_add(&syntax, (struct option){ .name = "--dump", .text = &order->dump });
-	args_add(&syntax, (struct option){ .name = "--status-out", .text = &order->status_out });
-	args_add(&syntax, (struct option){ .name = "--force", .flag = &order->force });
+	args_add(&syntax, (struct argument){ .name = "stop", .flag = &order->stop });
+	args_add(&syntax, (struct argument){ .name = "svg", .text = &order->svg });
+	args_add(&syntax, (struct argument){ .name = "dump", .text = &order->dump });
+	args_add(&syntax, (struct argument){ .name = "status-out", .text = &order->status_out });
+	args_add(&syntax, (struct argument){ .name = "force", .flag = &order->force });
 	dump_pages_option(&syntax, &order->pages_per_block);
 	parsed = args_parse(&syntax, argc, argv, &file);
 	if (parsed != PARSED)
@@ -72,32 +70,39 @@ static enum parsed take(struct order *order, int argc, char **argv)
 	return dump_fits(order->blocks, order->pages_per_block) ? PARSED : PARSED_WRONG;
 }
 
-static bool write_files(const struct order *order, const struct story *story, struct dump *dump)
+/* Runs the story and tells it. */
+static bool run(const struct order *order, struct story *story, struct row *row)
 {
-	const char *const read[] = { NULL };
-	const struct output outputs[] = {
-		{ "picture", order->svg, svg_fill, story },
-		{ "dump", order->dump, dump_fill, dump },
-		{ "status file", order->status_out, dump_fill_status, &story->region },
-	};
-
-	dump->pages_per_block = order->pages_per_block;
-	dump->region = story->region;
-	return file_write_all(outputs, 3, read, order->force);
-}
-
-static enum exit_status tell(const struct order *order, struct story *story, struct row *row, struct dump *dump)
-{
-	const bool held = story_run(story, row, order->blocks, order->seed, order->events, order->stop,
-				    isatty(STDERR_FILENO));
+	const bool held = story_run(story, row, order->blocks, order->seed, order->events, order->stop);
 
 	timeline_print(story);
-	if (!held) {
+	if (held)
+		printf("judged after every event: no rule broken\n");
+	else
 		printf("BROKEN: %s\n", story->broken);
+	return held;
+}
+
+/* Runs the story with its files begun, and writes them. */
+static enum exit_status tell(const struct order *order, struct story *story, struct row *row, struct dump *dump)
+{
+	struct outputs outputs = { .count = 0 };
+
+	outputs_add(&outputs, (struct output){ "picture", order->svg, svg_fill, story });
+	outputs_add(&outputs, (struct output){ "dump", order->dump, dump_fill, dump });
+	outputs_add(&outputs, (struct output){ "status file", order->status_out, status_fill, &story->region });
+	if (!outputs_begin(&outputs, NULL, 0, order->force))
+		return EXIT_WRONG;
+	if (!run(order, story, row)) {
+		outputs_drop(&outputs);
 		return EXIT_REFUSED;
 	}
-	printf("judged after every event: no rule broken\n");
-	return write_files(order, story, dump) ? EXIT_DONE : EXIT_WRONG;
+	dump->pages_per_block = order->pages_per_block;
+	dump->region = story->region;
+	if (!outputs_finish(&outputs))
+		return EXIT_WRONG;
+	outputs_print(&outputs);
+	return EXIT_DONE;
 }
 
 enum exit_status simulate_command(int argc, char **argv)

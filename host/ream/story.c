@@ -2,13 +2,50 @@
 #include "story.h"
 
 #include <inttypes.h>
-#include <stdarg.h>
 #include <stdio.h>
 #include <string.h>
 
 #include "draw.h"
+#include "progress.h"
 #include "rig.h"
 #include "table.h"
+
+/* A step in words. */
+static void step_words(const struct story *story, const struct row *row, const char *before,
+		       char words[EVENT_LEN])
+{
+	const uint64_t block = story->region.n - REGION_BLOCKS + row->block;
+
+	if (row->page == ALL_PAGES)
+		snprintf(words, EVENT_LEN, "%sstep %u: erase %" PRIu64, before, row->step, block);
+	else
+		snprintf(words, EVENT_LEN, "%sstep %u: write %" PRIu64 " page %u", before, row->step, block,
+			 row->page);
+}
+
+void story_event(const struct story *story, const struct row *row, char words[EVENT_LEN])
+{
+	switch (row->event) {
+	case EVENT_START:
+		snprintf(words, EVENT_LEN, "start");
+		break;
+	case EVENT_UPDATE:
+		snprintf(words, EVENT_LEN, "update to v%u: %" PRIu64 " went bad", row->to, row->marked);
+		break;
+	case EVENT_RECOVERY:
+		snprintf(words, EVENT_LEN, "recovery to v%u", row->to);
+		break;
+	case EVENT_STEP:
+		step_words(story, row, "", words);
+		break;
+	case EVENT_CUT:
+		if (row->block == NOWHERE)
+			snprintf(words, EVENT_LEN, "CUT before step %u", row->step);
+		else
+			step_words(story, row, "CUT in ", words);
+		break;
+	}
+}
 
 const char *story_result(enum result result)
 {
@@ -36,25 +73,13 @@ const char *story_reason(enum result result)
 
 /* ---- rows */
 
-/* Adds a row for an event on a page, or nowhere, with its text; what it left is set down by end_row(). */
-static void begin_row(struct story *story, enum event event, unsigned block, unsigned page,
-		      const char *format, ...)
+/* Adds a row for an event; what it left is set down by end_row(). */
+static void begin_row(struct story *story, struct row row)
 {
-	va_list arguments;
-	struct row *row;
-
-	if (story->rows == story->room) {
+	if (story->rows == story->room)
 		story->broken = "what is begun comes to its end";
-		return;
-	}
-	row = &story->row[story->rows++];
-	row->event = event;
-	row->block = block;
-	row->page = page;
-	row->result = RESULT_NONE;
-	va_start(arguments, format);
-	vsnprintf(row->text, EVENT_LEN, format, arguments);
-	va_end(arguments);
+	else
+		story->row[story->rows++] = row;
 }
 
 /* Sets down what the last event left, and judges it. */
@@ -125,8 +150,8 @@ static bool plan_update(struct story *story, const struct settled *table)
 	ream_entry_set(wanted, block, REAM_ENTRY_LATE);
 	refusal = plan_make(&story->plan, &story->region, wanted);
 	checker_update(&story->checker, &story->region, wanted, refusal != REAM_OK);
-	begin_row(story, EVENT_UPDATE, NOWHERE, 0, "update to v%u: %" PRIu64 " went bad", story->plan.version,
-		  block);
+	begin_row(story, (struct row){ .event = EVENT_UPDATE, .block = NOWHERE, .to = story->plan.version,
+				       .marked = block });
 	take_in_hand(story);
 	end_row(story, RESULT_NONE);
 	return true;
@@ -137,7 +162,7 @@ static void plan_recovery(struct story *story)
 	const unsigned refusal = plan_make(&story->plan, &story->region, NULL);
 
 	checker_recovery(&story->checker, &story->region, refusal != REAM_OK, story->plan.count);
-	begin_row(story, EVENT_RECOVERY, NOWHERE, 0, "recovery to v%u", story->plan.version);
+	begin_row(story, (struct row){ .event = EVENT_RECOVERY, .block = NOWHERE, .to = story->plan.version });
 	if (refusal == REAM_OK)
 		take_in_hand(story);
 	end_row(story, RESULT_NONE);
@@ -145,17 +170,14 @@ static void plan_recovery(struct story *story)
 
 /* ---- steps and cuts */
 
-/* The step that comes next, with its row begun. `before` stands before its text. */
-static struct ream_step begin_step(struct story *story, enum event event, const char *before)
+/* The step that comes next, with its row begun. */
+static struct ream_step begin_step(struct story *story, enum event event)
 {
 	const struct ream_step step = plan_step(&story->plan, story->next);
-	const unsigned block = plan_block(&story->plan, &step);
 
-	if (step.kind == REAM_ERASE)
-		begin_row(story, event, block, ALL_PAGES, "%sstep %u: erase %u", before, story->next, step.block);
-	else
-		begin_row(story, event, block, step.page, "%sstep %u: write %u page %u", before, story->next,
-			  step.block, step.page);
+	begin_row(story, (struct row){ .event = event, .block = plan_block(&story->plan, &step),
+				       .page = step.kind == REAM_ERASE ? ALL_PAGES : step.page,
+				       .step = story->next });
 	return step;
 }
 
@@ -175,7 +197,7 @@ static enum result finish(struct story *story)
 
 static void do_step(struct story *story)
 {
-	const struct ream_step step = begin_step(story, EVENT_STEP, "");
+	const struct ream_step step = begin_step(story, EVENT_STEP);
 	const unsigned block = plan_block(&story->plan, &step);
 	uint8_t page[PAGE_BYTES];
 
@@ -192,7 +214,7 @@ static void do_step(struct story *story)
 
 static void cut_in_step(struct story *story)
 {
-	const struct ream_step step = begin_step(story, EVENT_CUT, "CUT in ");
+	const struct ream_step step = begin_step(story, EVENT_CUT);
 	const unsigned block = plan_block(&story->plan, &step);
 	enum left left[MOST_PAGES];
 	uint8_t page[PAGE_BYTES];
@@ -210,7 +232,7 @@ static void cut_in_step(struct story *story)
 
 static void cut_before_step(struct story *story)
 {
-	begin_row(story, EVENT_CUT, NOWHERE, 0, "CUT before step %u", story->next);
+	begin_row(story, (struct row){ .event = EVENT_CUT, .block = NOWHERE, .step = story->next });
 	let_go(story);
 	end_row(story, RESULT_NONE);
 }
@@ -245,10 +267,15 @@ static bool next_event(struct story *story, bool cuts, bool updates)
 	return true;
 }
 
-static void show(const struct story *story, uint64_t events)
+/* Makes the bytes behind the bitmap's end FF in every copy's last page, as on a chip; the rig draws them. */
+static void clear_behind(struct region *region)
 {
-	if (story->rows % 256 == 0)
-		fprintf(stderr, "\rsimulating: event %zu of %" PRIu64, story->rows, events);
+	const unsigned page = region->pages - 1;
+	const size_t len = region_part_len(region, page);
+
+	for (unsigned block = 0; block < REGION_BLOCKS; block++)
+		if (region_signed(region, block, page, PRIMARY) || region_signed(region, block, page, MIRROR))
+			memset(region_data(region, block, page) + len, 0xFF, PAGE_DATA - len);
 }
 
 /* Can the story start here? The pair has to be settled, with half of the blocks good or more. */
@@ -277,20 +304,20 @@ static void begin(struct story *story, struct row *row, size_t room, uint64_t n,
 	do
 		rig_start_on(&story->state, n, &start, &story->region);
 	while (!can_start(story));
-	begin_row(story, EVENT_START, NOWHERE, 0, "start");
+	clear_behind(&story->region);
+	begin_row(story, (struct row){ .event = EVENT_START, .block = NOWHERE });
 	end_row(story, RESULT_NONE);
 }
 
-bool story_run(struct story *story, struct row *row, uint64_t n, uint64_t seed, uint64_t events, bool stop,
-	       bool shows)
+bool story_run(struct story *story, struct row *row, uint64_t n, uint64_t seed, uint64_t events, bool stop)
 {
+	struct progress progress = progress_begin("simulating", events, NULL);
+
 	begin(story, row, (size_t)events + STORY_MORE, n, seed);
 	while (!story->broken && story->rows <= events && next_event(story, true, true))
-		if (shows)
-			show(story, events);
+		progress_at(&progress, story->rows);
 	while (!story->broken && !stop && next_event(story, false, false))
 		continue;
-	if (shows)
-		fprintf(stderr, "\r%60s\r", "");
+	progress_end(&progress);
 	return !story->broken;
 }

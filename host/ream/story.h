@@ -24,13 +24,15 @@ enum event { EVENT_START, EVENT_UPDATE, EVENT_RECOVERY, EVENT_STEP, EVENT_CUT };
 /* What came of it, where an update or a recovery ran to its end. */
 enum result { RESULT_NONE, RESULT_UPDATED, RESULT_OLD_KEPT, RESULT_NEW_KEPT, RESULT_ONE_KEPT };
 
-/* The blocks and pages that an event was on. */
+/* The blocks and pages that an event was on; and the room for its words. */
 enum { NOWHERE = REGION_BLOCKS, ALL_PAGES = MOST_PAGES, EVENT_LEN = 48 };
 
 struct row {
 	enum event event;
-	char text[EVENT_LEN];
 	unsigned block, page;		/* that the event was on: NOWHERE, and of an erase ALL_PAGES */
+	unsigned step;			/* the number of a step that was done or cut, or cut before */
+	unsigned to;			/* the version of a plan that was made */
+	uint64_t marked;		/* the block that went bad, of an update's plan */
 	struct look look[REGION_BLOCKS];	/* what it left */
 	bool settled;
 	uint8_t version;		/* of the settled table */
@@ -51,6 +53,9 @@ struct story {
 	const char *broken;		/* the rule that was broken, if any was */
 };
 
+/* Tells a row's event in words. */
+void story_event(const struct story *story, const struct row *row, char words[EVENT_LEN]);
+
 /* Tells a row's result in words, and why; NULL of RESULT_NONE. */
 const char *story_result(enum result result);
 const char *story_reason(enum result result);
@@ -64,11 +69,9 @@ enum { STORY_MORE = 1 + 2 * MOST_PAGES + 2 };
  *	row	room for events + STORY_MORE rows
  *	events	so many events, if good blocks to mark do not run out before
  *	stop	stops there; otherwise what is begun goes on to its end uncut, and the pair is settled
- *	shows	tells on the standard error how far it is
  *
  * Gives false, with story->broken set, where a rule is broken.
  */
-bool story_run(struct story *story, struct row *row, uint64_t n, uint64_t seed, uint64_t events, bool stop,
-	       bool shows);
+bool story_run(struct story *story, struct row *row, uint64_t n, uint64_t seed, uint64_t events, bool stop);
 
 #endif

@@ -12,7 +12,7 @@
 /* Lengths, in pixels. */
 enum {
 	MARGIN = 24,
-	NUMBERS = 46,		/* the column of the numbers, with the bolt of a cut */
+	NUMBERS = 64,		/* the column of the numbers, of up to four digits, with the bolt of a cut */
 	TEXTS = 262,
 	BLOCK_GAP = 22,
 	NARROW_CELL = 50,	/* of several pages a block */
@@ -26,8 +26,12 @@ enum {
 	SUBTITLE = 58,
 	LEGEND = 78,
 	LEGEND_ROW = 30,
-	HEADS = 204,		/* the heads of the columns */
-	ROWS = 230,
+	HEADS = 184,		/* the heads of the columns, and their height */
+	HEAD = 46,
+	ROWS = HEADS + HEAD,
+	HEAD_TEXT = 20,		/* their lines, from their top */
+	HEAD_PAGES = 37,
+	HEAD_EVERY = 40,	/* so many rows they stand again */
 };
 
 /* Where the columns start, and how large the picture is. */
@@ -37,6 +41,12 @@ struct layout {
 	unsigned table, results;
 	unsigned width, height;
 };
+
+/* Where a row starts, below the heads that stand again before it. */
+static unsigned row_top(size_t row)
+{
+	return ROWS + (unsigned)row * ROW + (unsigned)(row / HEAD_EVERY) * HEAD;
+}
 
 static struct layout lay_out(const struct story *story)
 {
@@ -49,7 +59,7 @@ static struct layout lay_out(const struct story *story)
 	layout.table = layout.blocks + REGION_BLOCKS * layout.block;
 	layout.results = layout.table + TABLE;
 	layout.width = layout.results + RESULTS + MARGIN;
-	layout.height = ROWS + (unsigned)story->rows * ROW + MARGIN;
+	layout.height = row_top(story->rows - 1) + ROW + MARGIN;
 	return layout;
 }
 
@@ -187,30 +197,32 @@ static void draw_legend(FILE *stream, bool wide)
 	draw_text(stream, MARGIN + VERSION_WIDTH + 8, third + 16, "small",
 		  "settled: one good primary and one good mirror, alike; the table can be read, here version 7");
 	draw_table(stream, last - 140, third, false, 0);
-	draw_text(stream, last - 140 + 76, third + 16, "small", "otherwise: the next plan is a recovery");
+	draw_text(stream, last - 140 + 76, third + 16, "small",
+		  "otherwise: the plan goes on, or after a cut a recovery is planned");
 }
 
-static void draw_heads(FILE *stream, const struct story *story, const struct layout *layout)
+/* The heads of the columns, from y on. */
+static void draw_heads(FILE *stream, const struct story *story, const struct layout *layout, unsigned y)
 {
 	const unsigned pages = story->region.pages;
 	char label[LOOK_LEN];
 
-	draw_text(stream, MARGIN + NUMBERS, HEADS, "head", "event, from top to bottom");
+	draw_text(stream, MARGIN + NUMBERS, y + HEAD_TEXT, "head", "event, from top to bottom");
 	for (unsigned block = 0; block < REGION_BLOCKS; block++) {
 		const unsigned x = layout->blocks + block * layout->block;
 
 		snprintf(label, sizeof(label), "block %" PRIu64, story->region.n - REGION_BLOCKS + block);
-		draw_text(stream, x + pages * layout->cell / 2, HEADS, "head middle", label);
+		draw_text(stream, x + pages * layout->cell / 2, y + HEAD_TEXT, "head middle", label);
 		for (unsigned page = 0; page < pages && pages > 1; page++) {
 			snprintf(label, sizeof(label), "%u", page);
-			draw_text(stream, x + page * layout->cell + layout->cell / 2, HEADS + 17,
+			draw_text(stream, x + page * layout->cell + layout->cell / 2, y + HEAD_PAGES,
 				  "small middle", label);
 		}
 	}
 	if (pages > 1)
-		draw_text(stream, layout->blocks - 12, HEADS + 17, "number", "page");
-	draw_text(stream, layout->table, HEADS, "head", "table read");
-	draw_text(stream, layout->results, HEADS, "head", "what came of the plan");
+		draw_text(stream, layout->blocks - 12, y + HEAD_PAGES, "number", "page");
+	draw_text(stream, layout->table, y + HEAD_TEXT, "head", "table read");
+	draw_text(stream, layout->results, y + HEAD_TEXT, "head", "what came of the plan");
 }
 
 static void draw_head(FILE *stream, const struct story *story, const struct layout *layout)
@@ -225,7 +237,7 @@ static void draw_head(FILE *stream, const struct story *story, const struct layo
 		  "The table is kept twice, as primary and mirror, in two of the chip's "
 		  "last four blocks. Each row shows these blocks as an event left them.");
 	draw_legend(stream, region->pages == 1);
-	draw_heads(stream, story, layout);
+	draw_heads(stream, story, layout, HEADS);
 }
 
 /* ---- the rows */
@@ -284,14 +296,17 @@ static void draw_result(FILE *stream, const struct row *row, const struct layout
 	draw_text(stream, layout->results, y + 27, "small", story_reason(row->result));
 }
 
-static void draw_row(FILE *stream, const struct row *row, size_t number, const struct layout *layout, unsigned y)
+static void draw_row(FILE *stream, const struct story *story, size_t number, const struct layout *layout,
+		     unsigned y)
 {
-	char label[LOOK_LEN];
+	const struct row *row = &story->row[number];
+	char label[LOOK_LEN], words[EVENT_LEN];
 
 	draw_ground(stream, row, layout, y);
 	snprintf(label, sizeof(label), "%zu", number);
+	story_event(story, row, words);
 	draw_text(stream, MARGIN + NUMBERS - 8, y + 21, "number", label);
-	draw_text(stream, MARGIN + NUMBERS, y + 21, event_kind(row->event), row->text);
+	draw_text(stream, MARGIN + NUMBERS, y + 21, event_kind(row->event), words);
 	for (unsigned block = 0; block < REGION_BLOCKS; block++)
 		draw_pages(stream, row, block, layout, y + 5);
 	draw_table(stream, layout->table, y + 5, row->settled, row->version);
@@ -312,8 +327,11 @@ bool svg_fill(FILE *stream, const void *from)
 	fputs(style, stream);
 	fprintf(stream, "<rect width=\"%u\" height=\"%u\" fill=\"#fff\"/>\n", layout.width, layout.height);
 	draw_head(stream, story, &layout);
-	for (size_t i = 0; i < story->rows; i++)
-		draw_row(stream, &story->row[i], i, &layout, ROWS + (unsigned)i * ROW);
+	for (size_t i = 0; i < story->rows; i++) {
+		if (i > 0 && i % HEAD_EVERY == 0)
+			draw_heads(stream, story, &layout, row_top(i) - HEAD);
+		draw_row(stream, story, i, &layout, row_top(i));
+	}
 	fputs("</svg>\n", stream);
 	return true;
 }

@@ -4,6 +4,7 @@
 
 #include <stdint.h>
 
+#include "json.h"
 #include "region.h"
 
 /* A settled pair's table. */
@@ -16,11 +17,20 @@ struct settled {
 /* Reads it. Gives the refusal, or REAM_OK. */
 unsigned table_read(const struct region *region, struct settled *table);
 
-/* Prints version and chip blocks; and how many entries there are of each kind. */
-void table_print_pair(const struct settled *table);
-void table_print_counts(const struct settled *table, uint64_t n);
+/* An entry in a word. */
+const char *table_entry(unsigned entry);
 
-/* Prints the blocks that are not good by a bitmap, a line for each run of equal entries, with an ending. */
-void table_print_runs(const uint8_t *bitmap, uint64_t n, const char *ending);
+/* Tells version and chip blocks. */
+void table_print_pair(const struct settled *table);
+void table_write_pair(struct json *json, const struct settled *table);
+
+/* Tells how many entries there are of each kind, and the blocks that are not good: a line, or a value, for each
+ * run of equal entries. */
+void table_print_entries(const struct settled *table, uint64_t n);
+void table_write_entries(struct json *json, const struct settled *table, uint64_t n);
+
+/* Tells a run of blocks: "  block 7", "  blocks 9-11". */
+void table_print_run(uint64_t first, uint64_t last);
+void table_write_run(struct json *json, uint64_t first, uint64_t last);
 
 #endif

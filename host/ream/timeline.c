@@ -1,54 +1,92 @@
-/* A story as text. */
+/* A story as text, in lines of at most 80 columns. */
 #include "timeline.h"
 
 #include <inttypes.h>
 #include <stdio.h>
 
-/* The lengths of the columns. */
-enum { NUMBER = 3, TEXT = 33, BLOCK = 14 };
+#include "tool.h"
 
-static void print_head(const struct story *story)
+/* The columns: the number of an event, the bolt's !, its words, four blocks with their *, and the table. */
+enum { COLUMNS = 80, NUMBER = 3, BLOCK = 11, TABLE = 4, WORDS_LEN = 24 };
+
+/* How wide the column of the numbers is. */
+static int number_width(const struct story *story)
+{
+	int width = NUMBER;
+
+	for (size_t last = story->rows - 1; last >= 1000; last /= 10)
+		width++;
+	return width;
+}
+
+/* How wide the column of the words is then. */
+static int words_width(int number)
+{
+	return COLUMNS - number - 1 - REGION_BLOCKS * (1 + BLOCK) - 1 - TABLE;
+}
+
+static void print_head(const struct story *story, int number)
 {
 	const struct region *region = &story->region;
 	const uint64_t first = region->n - REGION_BLOCKS;
 
-	printf("N = %" PRIu64 " blocks, P = %u page%s a copy, seed %" PRIu64
-	       ". The last four blocks, event by event; * marks "
-	       "the one it is on.\n",
-	       region->n, region->pages, region->pages == 1 ? "" : "s", story->seed);
+	printf("N = %" PRIu64 " blocks, P = %u page%s a copy, seed %" PRIu64 ".\n", region->n, region->pages,
+	       plural(region->pages), story->seed);
+	printf("The last four blocks, event by event; * marks the one that it is on, ! a power\n"
+	       "cut. The table is read where the pair is settled.\n");
 	if (region->pages > 1)
-		printf("Pages of a block partly written: P of a primary, M of a mirror, - erased, x "
-		       "unreadable.\n");
-	printf("\n%*s  %-*s", NUMBER, "", TEXT, "event");
+		printf("Pages of a block partly written: P of a primary, M of a mirror, - erased,\n"
+		       "x unreadable.\n");
+	printf("\n%*s %-*s", number, "", words_width(number), "event");
 	for (unsigned block = 0; block < REGION_BLOCKS; block++)
-		printf(" %-*" PRIu64, BLOCK - 1, first + block);
-	printf(" table\n");
+		printf(" %-*" PRIu64, BLOCK, first + block);
+	printf(" read\n");
 }
 
-static void print_result(const struct row *row)
+/* An event in a few words; the block is the one marked. */
+static void event_words(const struct row *row, char words[WORDS_LEN])
 {
-	printf("%*s  => %s, v%u: %s\n", NUMBER, "", story_result(row->result), row->version,
+	const char *before = row->event == EVENT_CUT ? "CUT, " : "";
+
+	if (row->event == EVENT_START)
+		snprintf(words, WORDS_LEN, "start");
+	else if (row->event == EVENT_UPDATE)
+		snprintf(words, WORDS_LEN, "update: %" PRIu64 " bad", row->marked);
+	else if (row->event == EVENT_RECOVERY)
+		snprintf(words, WORDS_LEN, "recovery to v%u", row->to);
+	else if (row->block == NOWHERE)
+		snprintf(words, WORDS_LEN, "CUT before step %u", row->step);
+	else if (row->page == ALL_PAGES)
+		snprintf(words, WORDS_LEN, "%sstep %u: erase", before, row->step);
+	else
+		snprintf(words, WORDS_LEN, "%sstep %u: page %u", before, row->step, row->page);
+}
+
+static void print_result(const struct row *row, int number)
+{
+	printf("%*s  => %s, v%u: %s\n", number, "", story_result(row->result), row->version,
 	       story_reason(row->result));
 }
 
-static void print_row(const struct row *row, size_t number)
+static void print_row(const struct row *row, size_t i, int number)
 {
-	printf("%*zu%s%-*s", NUMBER, number, row->event == EVENT_CUT ? " !" : "  ", TEXT, row->text);
-	for (unsigned block = 0; block < REGION_BLOCKS; block++) {
-		char words[LOOK_LEN];
+	char words[WORDS_LEN], holds[LOOK_LEN];
 
-		look_words(&row->look[block], words);
-		printf("%c%-*s", block == row->block ? '*' : ' ', BLOCK - 1, words);
+	event_words(row, words);
+	printf("%*zu%c%-*s", number, i, row->event == EVENT_CUT ? '!' : ' ', words_width(number), words);
+	for (unsigned block = 0; block < REGION_BLOCKS; block++) {
+		look_brief(&row->look[block], holds);
+		printf("%c%-*s", block == row->block ? '*' : ' ', BLOCK, holds);
 	}
 	if (row->settled)
 		printf(" v%u\n", row->version);
 	else
-		printf(" not settled\n");
+		printf(" -\n");
 	if (row->result != RESULT_NONE)
-		print_result(row);
+		print_result(row, number);
 }
 
-/* How many rows have this event or result. */
+/* How many rows have this event. */
 static size_t events(const struct story *story, enum event event)
 {
 	size_t number = 0;
@@ -58,13 +96,23 @@ static size_t events(const struct story *story, enum event event)
 	return number;
 }
 
+static void print_sum(const struct story *story)
+{
+	const size_t all = story->rows - 1, updates = events(story, EVENT_UPDATE);
+	const size_t cuts = events(story, EVENT_CUT), recoveries = events(story, EVENT_RECOVERY);
+
+	printf("\n%zu event%s: %zu update%s planned, %zu power cut%s, %zu recover%s planned\n", all, plural(all),
+	       updates, plural(updates), cuts, plural(cuts), recoveries, recoveries == 1 ? "y" : "ies");
+}
+
 void timeline_print(const struct story *story)
 {
-	print_head(story);
+	const int number = number_width(story);
+
+	print_head(story, number);
 	for (size_t i = 0; i < story->rows; i++)
-		print_row(&story->row[i], i);
+		print_row(&story->row[i], i, number);
 	if (story->all_marked)
 		printf("No good block is left to mark: here the history ends.\n");
-	printf("\n%zu events: %zu updates planned, %zu power cuts, %zu recoveries planned\n", story->rows - 1,
-	       events(story, EVENT_UPDATE), events(story, EVENT_CUT), events(story, EVENT_RECOVERY));
+	print_sum(story);
 }

@@ -6,6 +6,10 @@
 #ifndef TOOL_H
 #define TOOL_H
 
+#include <stdint.h>
+
+#include "json.h"
+
 /* What the tool exits with. */
 enum exit_status {
 	EXIT_DONE = 0,
@@ -13,7 +17,7 @@ enum exit_status {
 	EXIT_WRONG = 2,		/* an argument or a file is wrong */
 };
 
-/* The commands, each with the arguments after its name. */
+/* The commands, each with the arguments from its name on. */
 enum exit_status pair_command(int argc, char **argv);
 enum exit_status update_command(int argc, char **argv);
 enum exit_status recover_command(int argc, char **argv);
@@ -27,7 +31,11 @@ enum exit_status simulate_command(int argc, char **argv);
 /* Says what is wrong, in a line after "ream: ". */
 void complain(const char *format, ...);
 
-/* Prints the refusal in the library's answer, with its number and in words, and gives EXIT_REFUSED. */
-enum exit_status print_refusal(const char *what, unsigned refusal);
+/* Tells the refusal in the library's answer, with its number and in words. */
+enum exit_status print_refusal(const char *what, unsigned refusal);	/* gives EXIT_REFUSED */
+void write_refusal(struct json *json, unsigned refusal);	/* null where there is none */
+
+/* The ending of a word that stands after a number. */
+const char *plural(uint64_t number);
 
 #endif

@@ -1,0 +1,950 @@
+#!/bin/sh
+# The test of the tool, ream: every command with good and with wrong input; its exit status, what it says and what it
+# writes. A failed run must leave no file.
+#
+#	host/ream/test_ream.sh PROGRAM
+set -u
+LC_ALL=C
+export LC_ALL
+
+if [ $# -ne 1 ] || ! [ -x "$1" ]; then
+	echo "usage: host/ream/test_ream.sh PROGRAM" >&2
+	exit 2
+fi
+case $1 in
+/*) ream=$1 ;;
+*) ream=$PWD/$1 ;;
+esac
+root=$(cd "$(dirname "$0")/../.." && pwd)
+manual=$root/man/ream.1
+work=$(mktemp -d) || exit 2
+trap 'rm -rf "$work"' EXIT
+cd "$work" || exit 2
+checks=0
+failures=0
+
+# ---- checks
+
+check() { # NAME COMMAND..: the command succeeds
+	checks=$((checks + 1))
+	name=$1
+	shift
+	if ! "$@" >/dev/null 2>&1; then
+		echo "test_ream: $name" >&2
+		failures=$((failures + 1))
+	fi
+}
+
+# Runs ream; its exit status has to be STATUS, and WORDS have to be among what it says: answers and refusals on the
+# standard output alone, what is wrong with arguments and files on the standard error.
+expect() { # STATUS WORDS ARGUMENTS..
+	status=$1
+	words=$2
+	shift 2
+	"$ream" "$@" >out 2>err
+	got=$?
+	check "ream $*: exit status $got, expected $status" [ "$got" -eq "$status" ]
+	if [ "$status" -eq 2 ]; then
+		check "ream $*: expected on standard error: $words" grep -qF -e "$words" err
+	else
+		check "ream $*: expected: $words" grep -qF -e "$words" out
+		check "ream $*: expected nothing on standard error" [ ! -s err ]
+	fi
+	check "ream $*: expected lines of at most 80 columns" fits out
+}
+
+fits() { # FILE: no line is longer than 80 columns
+	! grep -q '.\{81\}' "$1"
+}
+
+# The same, with a warning on the standard error.
+expect_warned() { # STATUS WARNING WORDS ARGUMENTS..
+	status=$1
+	warning=$2
+	words=$3
+	shift 3
+	"$ream" "$@" >out 2>err
+	got=$?
+	check "ream $*: exit status $got, expected $status" [ "$got" -eq "$status" ]
+	check "ream $*: expected: $words" grep -qF -e "$words" out
+	check "ream $*: expected the warning: $warning" grep -qF -e "$warning" err
+	check "ream $*: expected no complaint but warnings" [ -z "$(grep -v '^ream: warning: ' err)" ]
+}
+
+# The same, and OUT is not written.
+expect_none() { # OUT STATUS WORDS ARGUMENTS..
+	none=$1
+	shift
+	expect "$@"
+	check "ream $*: left $none" [ ! -e "$none" ]
+}
+
+says() { # WORDS: the last run said this too
+	check "expected besides: $1" grep -qF -e "$1" out
+}
+
+says_not() { # WORDS: the last run did not say this
+	check "not expected: $1" [ -z "$(grep -F -e "$1" out)" ]
+}
+
+# ---- pages and dumps
+
+ff() { # COUNT: so many bytes FF
+	dd if=/dev/zero bs="$1" count=1 2>/dev/null | tr '\000' '\377'
+}
+
+blank() { ff 2112; }
+bad() { ff 2048; printf '\000'; ff 63; }
+copy() { # SIGNATURE VERSION: a page of a table of good blocks; the version in octal
+	ff 2062
+	printf '%s' "$1"
+	printf "\\$2"
+	ff 45
+}
+primary() { copy Bbt0 "$1"; }
+mirror() { copy 1tbB "$1"; }
+poke() { # FILE OFFSET BYTES: in octal escapes
+	printf "$3" | dd of="$1" bs=1 seek="$2" conv=notrunc 2>/dev/null
+}
+
+# A chip of 16 blocks, of which each has one page in the dump.
+chip="--blocks 16 --pages-per-block 1"
+{ primary 005; blank; bad; mirror 005; } >settled
+{ ff 25344; cat settled; } >whole
+{ blank; blank; blank; blank; } >no_copy
+{ primary 005; primary 006; blank; mirror 005; } >several
+{ primary 005; blank; blank; mirror 205; } >opposite
+{ primary 006; blank; blank; mirror 005; } >newer
+{ primary 005; bad; bad; bad; } >no_target
+{ primary 005; blank; blank; mirror 005; } >differing
+poke differing 0 '\376'
+# the largest chip, of which each block has four pages in the dump
+{ primary 005; primary 005; primary 005; primary 005; ff 16896; mirror 005; mirror 005; mirror 005; mirror 005; } >large
+
+# ---- pair
+
+expect 0 "pair: settled, version 5, primary in block 12, mirror in block 15" pair $chip settled
+says "chip: 16 blocks (told, unchecked), 1 page a block (told)"
+says "dump: the last four blocks; a copy of the table fills 1 page"
+says "pages: all 4 that count read well (assumed)"
+says "block 13: erased"
+says "block 14: bad"
+says "entries: 16 good, 0 reserved, 0 late, 0 factory"
+sed 1,2d out >four_blocks
+expect 0 "dump: the whole chip" pair --pages-per-block 1 whole
+says "chip: 16 blocks (by the dump's size), 1 page a block (told)"
+sed 1,2d out >whole_chip
+check "a dump of the whole chip and one of its last four blocks agree" cmp four_blocks whole_chip
+expect 0 "version 5" pair --pages-per-block 1 --blocks=16 -- whole
+says "chip: 16 blocks (told), 1 page a block (told)"
+
+expect 1 "pair: refused, 7: there is no good primary and no good mirror" pair $chip no_copy
+says "recovery: refused, 7"
+expect 1 "pair: refused, 8: there are two or more good copies of one kind" pair $chip several
+says "recovery: refused, 8"
+expect 1 "pair: refused, 9: the versions of primary and mirror are 128 apart" pair $chip opposite
+says "recovery: refused, 9"
+expect 1 "pair: refused, 10: the pair of tables is not settled" pair $chip newer
+says "recovery: would erase block 15 and write the mirror there"
+says "  from the primary, version 6; 2 steps"
+expect 1 "pair: refused, 10" pair $chip no_target
+says "recovery: refused, 11: there is no block to recover to"
+expect 1 "pair: refused, 10" pair $chip differing
+says "recovery: would merge both tables (AND) and write both copies"
+says "  version 6; 4 steps"
+says "  block 0: primary reserved, mirror good; merged reserved"
+cp differing differing_more
+poke differing_more 1 '\125'
+poke differing_more 6337 '\252'
+expect 1 "  blocks 4-7: primary late, mirror reserved; merged factory" pair $chip differing_more
+says "  block 0: primary reserved, mirror good; merged reserved"
+
+# a table of two pages: a copy is good only with both of one kind and version
+{ primary 005; primary 006; mirror 005; blank; primary 005; mirror 005; bad; mirror 005; } >partly
+expect 1 "pair: refused, 7" pair --blocks 8196 --pages-per-block 2 partly
+says "a copy of the table fills 2 pages"
+says "block 8192: partly PP"
+says "block 8193: partly M-"
+says "block 8194: partly PM"
+says "block 8195: bad"
+printf '\000\001\001\001\000\000\001\000' >status_partly
+expect 1 "pair: refused, 7" pair --blocks 8196 --pages-per-block 2 --status status_partly partly
+says "block 8192: partly Px"
+says "block 8193: unreadable"
+says "block 8195: partly xM"
+
+# ---- update
+
+expect_none new 0 "update: 4 steps, to version 6" update $chip --mark-late 7,9-11 settled
+says "   0  erase     12     -  0x000006000"
+says "   1  write     12     0  0x000006000"
+says "   2  erase     15     -"
+says "   3  write     15     0"
+expect 0 "pair: settled, version 6, primary in block 12, mirror in block 15" \
+	update $chip --mark-late 7,9-11 --apply new settled
+says "dump written: new"
+expect 0 "version 6, primary in block 12, mirror in block 15" pair $chip new
+says "entries: 12 good, 0 reserved, 4 late, 0 factory"
+says "  block 7: late"
+says "  blocks 9-11: late"
+expect 0 "update: nothing to do, the table keeps version 6" update $chip --mark-late 9 new
+says "  block 9: stays late"
+expect 0 "version 6" update --pages-per-block 1 --mark-late 7,9-11 --apply new_whole whole
+{ ff 25344; cat new; } >expected
+check "an update of the whole chip's dump changes its last four blocks alike" cmp expected new_whole
+{ primary 377; blank; blank; mirror 377; } >last_version
+expect 0 "update: 4 steps, to version 0" update $chip --mark-late 1 --apply turned last_version
+expect 0 "version 0" pair $chip turned
+
+# marks add up, whether in a list or by several options, and each block is told
+expect 0 "  block 5: good -> late" update $chip --mark-late 5 --mark-late 6,2 --mark-late=0-1 --apply several_marks settled
+for block in 0 1 2 6; do
+	says "  block $block: good -> late"
+done
+expect 0 "entries: 11 good, 0 reserved, 5 late, 0 factory" pair $chip several_marks
+says "  blocks 0-2: late"
+says "  blocks 5-6: late"
+{ primary 005; blank; blank; mirror 005; } >kinds
+for copy_at in 0 6336; do
+	poke kinds $((copy_at + 2)) '\033'
+done
+expect 0 "update: 4 steps, to version 6" update $chip --mark-late 8-11,12 kinds
+says "  block 8: good -> late"
+says "  block 9: stays reserved"
+says "  block 10: stays late"
+says "  block 11: stays factory"
+says "  block 12: good -> late"
+says_not "block 13: "
+for option in "--blocks 16" "--pages-per-block 1" "--status status_well" "--apply none" "--status-out none_status" \
+	"--pages none_pages" "--force" "--json"; do
+	printf '\000\000\000\000' >status_well
+	expect_none none 2 "update: ${option%% *}: is given twice; expected it once" \
+		update $option $option --mark-late 5 settled
+done
+expect_none none 2 "page: --repaired: is given twice" page --repaired none --repaired none page
+expect_none none 2 "simulate: --seed: is given twice" simulate --seed 1 --dump none --seed=2
+many=$(awk 'BEGIN { for (i = 0; i < 257; i++) printf " --mark-late 5" }')
+expect 2 "--mark-late 5: is given more than 256 times; a list with commas takes more" update $chip $many settled
+
+for dump in no_copy:7 several:8 opposite:9 newer:10 no_target:10; do
+	expect_none none 1 "update: refused, ${dump#*:}:" update $chip --mark-late 1 --apply none "${dump%:*}"
+done
+says "a recovery comes first (ream recover)"
+
+# an erase makes later pages of its block blank too, and no other block's
+{ primary 005; copy abcd 005; blank; bad; bad; bad; mirror 005; bad; } >two_pages
+{ primary 006; blank; blank; bad; bad; bad; mirror 006; blank; } >expected
+poke expected 1 '\367'
+poke expected 12673 '\367'
+expect 0 "version 6" update --blocks 16 --pages-per-block 2 --mark-late 5 --apply erased two_pages
+check "an erase makes every page of its block blank" cmp expected erased
+
+# ---- geometry
+
+# A dump of so many blocks of so many pages, with the copies in these blocks, counted from the end, and block 7 late.
+make_dump() { # BLOCKS PAGES PRIMARY MIRROR
+	left=$1
+	while [ "$left" -gt 0 ]; do
+		case $left in
+		"$3") primary 005 >first ;;
+		"$4") mirror 005 >first ;;
+		*) blank >first ;;
+		esac
+		[ "$left" != "$3" ] && [ "$left" != "$4" ] || poke first 1 '\177'
+		cat first
+		ff $((($2 - 1) * 2112))
+		left=$((left - 1))
+	done
+}
+make_dump 16 128 1 2 >long_blocks
+expect_warned 0 "long_blocks: 64 pages a block are assumed, but every copy of the table stands right for 128 pages" \
+	"chip: 32 blocks (by the dump's size), 64 pages a block (assumed)" pair long_blocks
+check "the warning tells the other chip" \
+	grep -qF -e "for 128 pages a block (16 blocks) too; tell which by --pages-per-block" err
+expect 0 "pair: settled, version 5, primary in block 15, mirror in block 14" pair --pages-per-block 128 long_blocks
+expect 0 "chip: 32 blocks (by the dump's size), 64 pages a block (told)" pair --pages-per-block 64 long_blocks
+expect_warned 0 "64 pages a block are assumed" "update: 4 steps" update --mark-late 1 long_blocks
+expect_warned 0 "64 pages a block are assumed" "recover: nothing to do" recover long_blocks
+for places in "1 3" "2 3" "1 4" "3 4" "4 2"; do
+	make_dump 16 128 $places >long_blocks
+	expect_warned 1 "carries a table's signature, where none can stand" "pair: refused" pair long_blocks
+	check "the warning names what fits" grep -q "; .*128 pages a block (16 blocks) would fit (--pages-per-block)" err
+	expect 0 "pair: settled, version 5" pair --pages-per-block 128 long_blocks
+done
+make_dump 16 128 1 4 >long_blocks
+"$ream" pair long_blocks >out 2>err
+check "the warning names block, page and offset" grep -qF -e "block 24, page 0, at offset 3244032, carries" err
+make_dump 16 32 1 2 >short_blocks
+expect_warned 1 "; 32 pages a block (16 blocks) or 16 pages a block (32 blocks) would fit" "chip: 8 blocks" \
+	pair short_blocks
+check "the warning names block, page and offset" grep -qF -e "block 7, page 32, at offset 1013760, carries" err
+make_dump 4 128 1 2 >long_region
+expect_warned 0 "right for 128 pages a block (the last four blocks) too" "chip: 8 blocks" pair long_region
+expect 2 "the last four; --pages-per-block 128 would fit (refusal 1" pair --blocks 1024 long_region
+make_dump 16 64 1 2 >usual
+expect 0 "chip: 16 blocks (by the dump's size), 64 pages a block (assumed)" pair usual
+
+# the last four blocks of a chip of 4096 blocks, of which block 3001 is late, told to be of 8
+make_dump 4 64 1 2 >last_four
+for copy_at in 270336 405504; do
+	poke last_four $((copy_at + 750)) '\367'
+done
+expect 0 "  block 3001: late" pair --blocks 4096 last_four
+expect_warned 0 "last_four: block 6, page 0, at offset 271086, has F7 in byte 750, behind the bitmap of 8 blocks" \
+	"pair: settled, version 5" pair --blocks 8 last_four
+check "the warning tells how many blocks there are" grep -qF -e "a table of 3004 blocks or more has an entry there" err
+expect_warned 0 "behind the bitmap of 8 blocks, expected FF" "update: 4 steps" update --blocks 8 --mark-late 1 last_four
+expect_warned 0 "behind the bitmap of 3000 blocks" "version 5" pair --blocks 3000 last_four
+expect 0 "version 5" pair --blocks 3004 last_four
+# a page that cannot be read contradicts nothing
+expect 1 "pair: refused, 7" pair --blocks 8 --unreadable 6:0,7:0 last_four
+# copies of two pages, told to be of one
+{ primary 005; primary 005; blank; blank; blank; blank; mirror 005; mirror 005; } >long_copies
+expect 0 "version 5" pair --blocks 8196 --pages-per-block 2 long_copies
+expect_warned 0 "a chip of more blocks has longer copies (--blocks)" "version 5" \
+	pair --blocks 4096 --pages-per-block 2 long_copies
+
+# ---- what Linux leaves
+
+one_line() { # the last run's notes, without their line breaks
+	tr '\n' ' ' <out | sed 's/  */ /g' >one_line
+}
+notes() { # WORDS: are among the notes
+	one_line
+	check "expected among the notes: $1" grep -qF -e "$1" one_line
+}
+notes_not() { # WORDS: are not
+	one_line
+	check "not expected among the notes: $1" [ -z "$(grep -F -e "$1" one_line)" ]
+}
+two="--blocks 8196 --pages-per-block 2"
+{ primary 005; blank; blank; blank; blank; blank; mirror 005; blank; } >by_linux
+expect 1 "pair: refused, 7" pair $two by_linux
+for block in 8192 8195; do
+	notes "note: block $block is a copy with its header on page 0 only, as Linux writes it above 8,192 blocks, and as a chip"
+	notes "and as a chip of 8,192 blocks or fewer has it. The library wants the header on all 2 pages (docs/LINUX.md)"
+done
+# the commands of docs/LINUX.md, as printed
+mkdir linux
+{ ff $((3 * 64 * 2112)); mirror 005; ff $((63 * 2112)); } >linux/dump.bin
+sed -n '/^    cp dump/,/^$/s/^    //p' "$root/docs/LINUX.md" >linux/headers.sh
+sed -n '/^    block=3$/,/^$/s/^    //p' "$root/docs/LINUX.md" >linux/given_up.sh
+expect 1 "block 8195: partly M-" pair --blocks 8196 linux/dump.bin
+check "headers are brought back" sh -c 'cd linux && sh -e ./headers.sh'
+expect 1 "block 8195: mirror v5" pair --blocks 8196 linux/copy.bin
+check "a block is lent as bad" sh -c 'cd linux && sh -e ./given_up.sh'
+expect 1 "block 8195: bad" pair --blocks 8196 linux/copy.bin
+{ primary 005; primary 005; blank; blank; blank; blank; mirror 005; blank; } >cut_or_linux
+expect 1 "pair: refused, 10" pair $two cut_or_linux
+notes "block 8195 is a copy with its header on page 0 only, as Linux writes it above 8,192 blocks, and as a power cut after"
+notes_not "block 8192 is a copy"
+poke cut_or_linux 14784 '\177'
+expect 1 "pair: refused, 10" pair $two cut_or_linux
+notes "block 8195 is a copy with its header on page 0 only, as Linux writes it above 8,192 blocks. The library"
+expect 1 "pair: refused, 10" pair $two --unreadable 8195:1 cut_or_linux
+notes_not "as Linux writes it"
+expect 1 "pair: refused, 10" pair $chip newer
+notes_not "Linux"
+
+# entries: reserved and none late, in no table block
+{ primary 005; blank; blank; mirror 005; } >worn
+for copy_at in 0 6336; do
+	poke worn $((copy_at + 1)) '\276'
+done
+expect 0 "entries: 14 good, 2 reserved, 0 late, 0 factory" pair $chip worn
+notes "note: 2 entries are reserved (10) and none late (01), as in a table that Linux writes"
+notes "If Linux has written this chip, reserved means worn (docs/LINUX.md)"
+expect 0 "update: 4 steps" update $chip --mark-late 0-1 --apply worn_marked worn
+expect 0 "2 reserved, 2 late" pair $chip worn_marked
+notes_not "Linux"
+{ primary 005; blank; blank; mirror 005; } >held
+for copy_at in 0 6336; do
+	poke held $((copy_at + 3)) '\252'
+done
+expect 0 "entries: 12 good, 4 reserved" pair $chip held
+notes_not "Linux"
+
+# a table's block that went bad under Linux: its signature is there, and 0 in OOB 0
+{ primary 005; primary 006; blank; mirror 006; } >given_up
+poke given_up 2048 '\000'
+expect 1 "pair: refused, 8" pair $chip given_up
+notes "note: block 12 carries a signature and 0 in OOB 0, as Linux leaves a table's block that went bad."
+notes_not "block 13 carries"
+dd if=/dev/zero of=given_up bs=1 seek=2048 count=64 conv=notrunc 2>/dev/null
+expect 0 "pair: settled, version 6, primary in block 13, mirror in block 15" pair $chip given_up
+says "block 12: bad"
+
+# ---- recover
+
+expect 0 "recover: nothing to do, the table keeps version 5" recover $chip --apply same settled
+check "an empty plan leaves the dump as it is" cmp settled same
+expect 0 "recover: 2 steps, to version 6" recover $chip --apply recovered newer
+says "   0  erase     15     -"
+says "pair: settled, version 6, primary in block 12, mirror in block 15"
+expect 0 "pair: settled, version 6, primary in block 12, mirror in block 15" pair $chip recovered
+expect 0 "recover: 4 steps, to version 6" recover $chip --apply merged differing
+says "  block 0: primary reserved, mirror good; merged reserved"
+expect 0 "block 0: reserved" pair $chip merged
+for dump in no_copy:7 several:8 opposite:9 no_target:11; do
+	expect_none none 1 "recover: refused, ${dump#*:}:" recover $chip --apply none "${dump%:*}"
+done
+
+# a page that could not be read
+printf '\000\000\000\001' >status
+expect 1 "pair: refused, 10" pair $chip --status status settled
+says "block 15: unreadable"
+says "recovery: would erase block 15 and write the mirror there"
+expect 0 "status file written: status_after" \
+	recover $chip --status status --apply after --status-out status_after settled
+expect 0 "version 5" pair $chip --status status_after after
+printf '\000\000\000\000' >expected
+check "what is written reads well" cmp expected status_after
+
+# pages that could not be read, by name
+"$ream" pair $chip --status status settled >by_file
+expect 1 "pair: refused, 10" pair $chip --unreadable 15:0 settled
+check "a page named is as in a status file" cmp by_file out
+says "pages: of the 4 that count 1 unreadable (told)"
+expect 1 "pair: refused, 7" pair $chip --unreadable 12:0,15:0 settled
+expect 1 "pair: refused, 7" pair $chip --unreadable 12:0 --unreadable=15:0 settled
+expect 1 "pair: refused, 7" pair $chip --status status --unreadable 12:0 settled
+expect 0 "status file written: status_named" \
+	recover $chip --unreadable 15:0,13:0 --apply named --status-out status_named settled
+printf '\000\001\000\000' >expected
+check "what is not written stays unreadable" cmp expected status_named
+expect 1 "block 8195: partly xM" pair --blocks 8196 --pages-per-block 2 --unreadable 8195:0 partly
+for page in 11:0 16:0 5:0 -1:0 99999999999999999999999:0; do
+	expect 2 "--unreadable $page: $page is out of range, expected one of the last four blocks, 12 to 15 (refusal 2" \
+		pair $chip --unreadable "$page" settled
+done
+for page in 15:1 15:-1; do
+	expect 2 "--unreadable $page: $page is out of range, expected a page from 0 to 0, as only these count (refusal 2" \
+		pair $chip --unreadable "$page" settled
+done
+expect 2 "--unreadable 15: 15 has no page; expected BLOCK:PAGE with commas" pair $chip --unreadable 15 settled
+expect 2 "--unreadable 15:0,: nothing stands after the last comma" pair $chip --unreadable 15:0, settled
+expect 2 "--unreadable 15:x: cannot take \"15:x\"" pair $chip --unreadable 15:x settled
+
+# ---- the pages of a plan
+
+expect 0 "     1  write     12     0  0x000006000  step-01-block-12-page-0.bin" update $chip --mark-late 5 --pages images settled
+says "     3  write     15     0  0x000007800  step-03-block-15-page-0.bin"
+says "page written: images/step-01-block-12-page-0.bin"
+check "a file for each page, in the plan's order" \
+	[ "$(ls images | tr '\n' ' ')" = "step-01-block-12-page-0.bin step-03-block-15-page-0.bin " ]
+primary 006 >expected
+poke expected 1 '\367'
+check "a page is as the plan writes it" cmp expected images/step-01-block-12-page-0.bin
+expect 2 "images/step-01-block-12-page-0.bin: is there already" update $chip --mark-late 5 --pages images settled
+expect 0 "page written: images/" update $chip --mark-late 5 --pages images --force settled
+expect 2 "is no page of this plan; expected a folder without others" recover $chip --pages images --force newer
+expect_none none 2 "settled: is there and is no folder" recover $chip --apply none --pages settled newer
+expect_none missing 2 "missing/none: cannot be made" recover $chip --pages missing/none newer
+expect_none none 2 "none: is there and is no regular file" recover $chip --apply none --pages none newer
+expect_none folder_of_pages 2 "is named for two files to write" \
+	recover $chip --apply folder_of_pages/step-01-block-15-page-0.bin --pages ./folder_of_pages newer
+expect_none none 0 "recover: nothing to do" recover $chip --pages none settled
+expect_none none 1 "recover: refused, 7" recover $chip --pages none no_copy
+mkdir empty_folder
+expect 0 "page written: empty_folder/step-01-block-15-page-0.bin" recover $chip --pages empty_folder newer
+expect 0 "update: 10 steps" update --blocks 32768 --pages-per-block 4 --mark-late 0,32767 --pages all --apply all_applied large
+says "   9  write  32767     3  0x00ffff800"
+check "all pages of the longest plan" [ "$(ls all | wc -l)" -eq 8 ]
+cat all/step-0[1-4]* >expected
+dd if=all_applied bs=8448 count=1 of=found 2>/dev/null
+check "the pages in their names' order are the copy" cmp expected found
+
+# ---- wrong arguments and files
+
+for blocks in 0 4 10 32772 99999999999 99999999999999999999999 -8; do
+	expect 2 "pair: --blocks $blocks: out of range, expected a multiple of 4 from 8 to 32768 (refusal 2: a number" \
+		pair --blocks "$blocks" settled
+done
+expect 2 "settled: has 4 blocks of 1 page; expected a whole chip" pair --pages-per-block 1 settled
+expect 2 "settled: ends at offset 8448, inside block 0; expected whole blocks of 135168 bytes" pair settled
+expect 2 "settled: ends at offset 8448; expected 67584 bytes, all 16 blocks of 2 pages, or 16896 bytes, the last four" \
+	pair --blocks 16 --pages-per-block 2 settled
+says_wrong="refusal 1: a lent buffer has the wrong length"
+dd if=settled of=short bs=8447 count=1 2>/dev/null
+expect 2 "$says_wrong" pair $chip short
+expect 2 "short: ends at offset 8447" pair $chip short
+: >empty
+expect 2 "empty: ends at offset 0" pair $chip empty
+expect 2 "empty: has 0 blocks" pair empty
+expect 2 "--pages-per-block 3: expected at least 4" pair --blocks 32768 --pages-per-block 3 settled
+expect 2 "missing: cannot be read" pair $chip missing
+expect 2 ".: expected a regular file" pair $chip .
+printf '\000\000\000' >short_status
+expect 2 "short_status: ends at offset 3, expected 4 bytes" pair $chip --status short_status settled
+printf '\000\000\002\000' >wrong_status
+expect 2 "wrong_status: offset 2 has 02, expected 00 (read well) or 01 (unreadable) (refusal 2" \
+	pair $chip --status wrong_status settled
+expect 2 "missing: cannot be read" pair $chip --status missing settled
+
+expect 2 "no command"
+expect 2 "pear: no such command" pear
+expect 2 "--block: no such option; --blocks has to be named in full" pair --block 16 settled
+expect 2 "--block=16: no such option; --blocks has to be named in full" pair --block=16 settled
+expect_none 64 2 "--page: no such option" recover --page 64 settled
+expect 2 "--pages: no such option; --pages-per-block has to be named in full" pair --pages 64 settled
+expect 2 "--forc: no such option; --force has to be named in full" recover $chip --forc settled
+expect 2 "--blocky: no such option" pair --blocky 16 settled
+expect 2 "--st: no such option" recover --st none settled
+expect 2 "-b: no such option" pair -b settled
+expect 2 "-8: no such option" pair -8 settled
+expect 2 "--blocks: expected a value after it" pair --blocks
+expect 2 "--blocks x: expected a multiple of 4 from 8 to 32768" pair --blocks x settled
+expect 2 "--pages-per-block 0: out of range, expected a number from 1 to 1024" pair --pages-per-block 0 settled
+expect 2 "--pages-per-block -8: out of range, expected a number from 1 to 1024" pair --pages-per-block=-8 settled
+expect 2 "no file; expected DUMP" pair $chip
+expect 2 "one argument too many" pair $chip settled settled
+expect 2 "--force: takes no value" recover $chip --force=yes settled
+expect 2 "--apply: expected a value, found an empty one" recover $chip --apply= settled
+expect 2 "expected --mark-late" update $chip settled
+for list in x '1,' ,1 1-x 3-1 1.5 -1; do
+	expect 2 "--mark-late" update $chip --mark-late "$list" settled
+done
+expect 2 "--mark-late 5,: nothing stands after the last comma; expected blocks or ranges" \
+	update $chip --mark-late 5, settled
+expect 2 "--mark-late ,5: nothing stands before the first comma" update $chip --mark-late ,5 settled
+expect 2 "--mark-late 5,,6: nothing stands between two commas" update $chip --mark-late 5,,6 settled
+expect 2 "--mark-late 5,x6: cannot take \"x6\"" update $chip --mark-late 5,x6 settled
+expect 2 "--mark-late 9-7: 9-7 runs backwards" update $chip --mark-late 9-7 settled
+for list in 3-16 16 -8 99999999999999999999999 3-99999999999999999999999; do
+	expect 2 "--mark-late $list: $list is out of range, expected blocks from 0 to 15 (refusal 2" \
+		update $chip --mark-late "$list" settled
+done
+expect 2 "--status-out: expected --apply beside it" recover $chip --status-out none settled
+
+# ---- pipes
+
+piped() { # STATUS WORDS FILE ARGUMENTS..: as expect, from a pipe
+	status=$1
+	words=$2
+	file=$3
+	shift 3
+	cat "$file" | "$ream" "$@" >out 2>err
+	check "$file | ream $*: exit status" [ $? -eq "$status" ]
+	check "$file | ream $*: expected: $words" grep -qF -e "$words" out err
+}
+"$ream" pair $chip newer >by_name
+piped 1 "pair: refused, 10" newer pair $chip -
+check "a pipe's dump is read as a file's" cmp by_name out
+piped 0 "pair: settled, version 5" settled pair $chip -
+piped 0 "dump: the whole chip" whole pair --pages-per-block 1 -
+rm -f piped_out
+piped 0 "dump written: piped_out" newer recover $chip --apply piped_out -
+check "a pipe's dump is recovered as a file's" cmp recovered piped_out
+piped 0 "update: 4 steps" settled update $chip --mark-late 5 -
+piped 2 "standard input: ends at offset 8447" short pair $chip -
+piped 1 "block 15: unreadable" status pair $chip --status - settled
+"$ream" pair $chip - <settled >out 2>err
+check "the standard input may be a file" grep -qF -e "pair: settled" out
+mkfifo pipe
+cat settled >pipe &
+expect 0 "pair: settled" pair $chip pipe
+wait
+expect 2 "-: is named for two files to read" pair $chip --status - -
+"$ream" pair $chip - </dev/null >out 2>err
+check "the standard input has to be a file or a pipe" grep -qF -e "standard input: expected a regular file or a pipe" err
+(
+	trap '' XFSZ
+	ulimit -f 4
+	cat settled | "$ream" pair $chip - >/dev/null 2>err_file
+	[ $? -eq 2 ] && grep -q "^ream: standard input: cannot be kept in .*, at offset .*: File too large" err_file
+)
+check "a pipe that cannot be kept" [ $? -eq 0 ]
+
+# ---- output files
+
+cp settled input
+expect 2 "input: is the file that is read" recover $chip --apply input --force input
+ln -s input link
+expect 2 "link: is the file that is read" recover $chip --apply link --force input
+check "the input is as it was" cmp settled input
+expect 2 "status: is the file that is read" \
+	recover $chip --status status --apply none --status-out status --force settled
+echo precious >there
+expect 2 "there: is there already; --force replaces it" recover $chip --apply there newer
+check "a file that is there stays" grep -q precious there
+expect_none none 2 "there: is there already" recover $chip --apply none --status-out there newer
+expect 0 "dump written: there" recover $chip --apply there --force newer
+check "--force replaces it" cmp recovered there
+mkdir folder
+expect 2 "folder: is there and is no regular file" recover $chip --apply folder --force newer
+expect_none missing/none 2 "missing/none: cannot be written" recover $chip --apply missing/none newer
+expect_none none 2 "missing/status: cannot be written" \
+	recover $chip --apply none --status-out missing/status newer
+expect_none none 2 "none: is named for two files" recover $chip --apply none --status-out none newer
+mkdir -p folder/within
+for other in ./none folder/../none "$PWD/none" folder/within/../../none; do
+	expect_none none 2 "$other: is named for two files to write, the other time as none" \
+		recover $chip --apply none --status-out "$other" newer
+done
+expect_none none 2 "is named for two files to write" simulate --dump none --status-out ./none
+expect_none none 2 "is named for two files to write" simulate --svg folder/none --status-out ./folder/none
+ln -s folder other_folder
+expect_none folder/none 2 "other_folder/none: is named for two files" \
+	recover $chip --apply folder/none --status-out other_folder/none newer
+echo precious >one_name
+ln one_name two_names
+expect 2 "two_names: is named for two files" recover $chip --apply one_name --status-out two_names --force newer
+check "a file under two names stays" grep -q precious one_name
+for other in ./input folder/../input "$PWD/input"; do
+	expect 2 "$other: is the file that is read, input" recover $chip --apply "$other" --force input
+done
+expect 2 "input: is the file that is read, ./input" recover $chip --apply input --force ./input
+expect 2 "input: is the file that is read, link" recover $chip --apply input --force link
+"$ream" recover $chip --apply input --force - <input >out 2>err
+check "the standard input is a file that is read" grep -qF -e "input: is the file that is read, standard input" err
+expect 2 "./status: is the file that is read" \
+	recover $chip --status status --apply none --status-out ./status --force settled
+check "the input is as it was" cmp settled input
+
+# nothing is told before the path of an output is refused
+for command in "recover $chip --apply there newer" "update $chip --mark-late 1 --apply missing/none settled" \
+	"recover $chip --apply none --status-out there newer" "simulate --svg there" "page --repaired there page"; do
+	{ ff 512; printf '\000\000\001\243\001\377\126\000\377\377\377\000\142\377\377\377'; } >page
+	"$ream" $command >out 2>err
+	check "ream $command: exit status 2" [ $? -eq 2 ]
+	check "ream $command: nothing is told before its output is refused" [ ! -s out ]
+	check "ream $command: says why" [ -s err ]
+done
+(
+	trap '' XFSZ
+	ulimit -f 4
+	"$ream" recover $chip --apply none newer >/dev/null 2>err_file
+	[ $? -eq 2 ] && grep -q "^ream: none: cannot be written.*: File too large" err_file
+)
+check "a file that cannot be written whole" [ $? -eq 0 ]
+check "a file that cannot be written whole is not there" [ ! -e none ]
+if [ -w /dev/full ]; then
+	"$ream" pair $chip settled >/dev/full 2>err
+	check "standard output that cannot be written" [ $? -eq 2 ]
+fi
+
+# ---- signals, and how far it is
+
+# A run that waits in its output, with its files begun: it has more to say than a pipe holds that nobody reads.
+begun() { find signals -name '*.??????' | wc -l; }
+end_by() { # SIGNAL NUMBER COMMAND..: the command is ended by the signal, and leaves no file
+	signal=$1
+	number=$2
+	shift 2
+	exec 3<>unread
+	"$@" update --blocks 32768 --pages-per-block 4 --mark-late 0-32767 --apply signals/out \
+		--status-out signals/status --pages signals/pages large >unread 2>err &
+	run=$!
+	tries=0
+	until [ "$(begun)" -eq 10 ] || [ $tries -eq 100 ]; do
+		sleep 0.1
+		tries=$((tries + 1))
+	done
+	check "a run that waits has its files begun" [ "$(begun)" -eq 10 ]
+	kill -s "$signal" $run
+	{ wait $run; ended=$?; } 2>/dev/null
+	exec 3<&-
+	check "a run is ended by SIG$signal: $ended" [ $ended -eq $((128 + number)) ]
+	check "SIG$signal leaves no file" [ -z "$(find signals -mindepth 1)" ]
+}
+mkfifo unread
+mkdir signals
+end_by HUP 1 "$ream"
+end_by TERM 15 "$ream"
+# a shell has its background ignore SIGINT
+if env --default-signal=INT true 2>/dev/null; then
+	end_by INT 2 env --default-signal=INT "$ream"
+fi
+
+# Only a terminal is told, and only from the second second on.
+slowly() { cat no_copy; sleep 1.2; ff 1; }
+slowly | "$ream" pair $chip - >out 2>err
+check "who is no terminal is not told how far it is" [ "$(wc -l <err)" -eq 1 ]
+check "a pipe's length is judged" grep -qF -e "standard input: ends at offset 8449; expected 33792 bytes" err
+if command -v script >/dev/null; then
+	cat >slow.sh <<-END
+		{ cat no_copy; sleep 1.2; printf x; } | "$ream" pair $chip - >slow.out
+		"$ream" pair $chip settled >slow.out
+	END
+	script -qec "sh slow.sh" /dev/null >told 2>&1 </dev/null
+	check "a terminal is told how far it is" grep -qF -e "ream: reading: 0 MB" told
+	check "a terminal is not told of what is done soon" [ "$(grep -c MB told)" -eq 1 ]
+fi
+
+# ---- page
+
+spare='\000\000\001\243\001\377\126\000\377\377\377\000\142\377\377\377'
+{ ff 512; printf "$spare"; } >page
+expect 0 "path: 6, boot number 1, generation 2" page page
+says "status: FF, good"
+says "tag: 01, boot"
+check "one erase is one" grep -qx "count: 1 erase" out
+says "repairs: 0"
+mend() { # NAME OFFSET BYTE: a page with one byte changed, which is put right
+	cp page flawed
+	poke flawed "$2" "$3"
+	rm -f mended
+	expect 0 "repairs: 1 ($1)" page --repaired mended flawed
+	says "page written: mended"
+	check "a repaired page is as it was written: $1" cmp page mended
+}
+mend "first half" 0 '\376'
+mend "first half" 525 '\376'
+mend "second half" 511 '\177'
+mend "second half" 522 '\373'
+mend "tag" 516 '\000'
+mend "path word" 512 '\200'
+mend "path word" 515 '\242'
+mend "count word" 518 '\127'
+mend "count word" 524 '\143'
+cp page flawed
+poke flawed 517 '\376'
+poke flawed 515 '\203'
+poke flawed 524 '\102'
+poke flawed 522 '\374'
+poke flawed 527 '\374'
+expect 0 "repairs: 0" page flawed
+check "bits that are ignored are no repair" grep -qx "repairs: 0" out
+says "status: FE, good"
+poke flawed 0 '\376'
+poke flawed 256 '\376'
+poke flawed 516 '\003'
+expect 0 "repairs: 3 (tag, first half, second half)" page flawed
+{ ff 512; printf '\000\000\001\243\030\377\126\000\377\377\377\000\142\377\377\377'; } >data_page
+expect 0 "path: 6" page data_page
+says "tag: 18, data"
+
+# a count that can be read but not written
+{ ff 512; printf '\000\000\001\243\001\377\126\377\377\377\377\377\376\377\377\377'; } >counted
+expect 0 "count: 262143 erases" page counted
+expect_none none 1 "repaired page: refused, 2: a number is outside its range" page --repaired none counted
+
+refuse() { # WORDS DETAIL OFFSET BYTES: a page with bytes changed, which is refused
+	cp page flawed
+	poke flawed "$3" "$4"
+	expect_none none 1 "$1" page --repaired none flawed
+	says "$2"
+}
+refuse "page: refused, 3: the block is marked bad" "status byte 00: marked by the factory" 517 '\000'
+refuse "page: refused, 3: the block is marked bad" "status byte FC: went bad in use (late)" 517 '\374'
+refuse "page: refused, 4: the tag byte is not within one bit of a tag" "tag byte 55" 516 '\125'
+refuse "page: refused, 5: the magic is not 56 hex" "expected 56 in spare byte 6" 518 '\145'
+refuse "page: refused, 6: a half of the page is not repairable" "the first half, bytes 0-255" 0 '\374'
+refuse "page: refused, 6: a half of the page is not repairable" "the second half, bytes 256-511" 256 '\374'
+ff 528 >erased_page
+expect 1 "page: refused, 5" page erased_page
+says "the page is erased, all FF"
+ff 527 >short_page
+expect 2 "short_page: ends at offset 527, expected 528 bytes, 512 of data and 16 of spare (refusal 1" page short_page
+expect 2 "page: is the file that is read" page --repaired page --force page
+expect 2 "missing: cannot be read" page missing
+
+piped 0 "path: 6, boot number 1, generation 2" page page -
+
+# ---- JSON
+
+# A run with --json, and what Python says of the value d that it gives.
+json() { # STATUS ARGUMENTS..
+	status=$1
+	shift
+	"$ream" "$@" --json >out 2>err
+	check "ream $* --json: exit status" [ $? -eq "$status" ]
+	check "ream $* --json: valid" python3 -m json.tool out
+	check "ream $* --json: nothing on standard error" [ ! -s err ]
+}
+has() { # EXPRESSION..: each holds
+	check "expected in JSON: $*" python3 -c '
+import json, sys
+d = json.load(open("out"))
+sys.exit(0 if all(eval(expression) for expression in sys.argv[1:]) else 1)' "$@"
+}
+if command -v python3 >/dev/null && python3 -c 'import json' 2>/dev/null; then
+	json 0 pair $chip kinds
+	has "d['command'] == 'pair'" "d['chip'] == {'blocks': 16, 'blocks_told': True, 'pages_per_block': 1,
+		'pages_per_block_told': True, 'table_pages': 1}" "d['dump']['whole_chip'] is False" \
+		"d['dump']['size'] == 8448" "d['dump']['status_told'] is False" "d['dump']['unreadable'] == []" \
+		"d['settled'] is True" "d['refusal'] is None" "d['version'] == 5" "d['primary'] == 12" "d['mirror'] == 15" \
+		"d['entries'] == {'good': 13, 'reserved': 1, 'late': 1, 'factory': 1}" \
+		"d['not_good'][0] == {'first': 9, 'last': 9, 'entry': 'reserved'}" "len(d['not_good']) == 3" \
+		"[b['holds'] for b in d['region']] == ['primary', 'erased', 'erased', 'mirror']" \
+		"d['region'][0] == {'block': 12, 'holds': 'primary', 'version': 5, 'pages': 'P'}" "d['warnings'] == []"
+	json 1 pair $chip --unreadable 13:0 newer
+	has "d['settled'] is False" "d['refusal']['number'] == 10" "'not settled' in d['refusal']['text']" \
+		"d['dump']['unreadable'] == [{'block': 13, 'page': 0}]" "d['recovery']['version'] == 6" \
+		"d['recovery']['steps'] == [{'step': 0, 'does': 'erase', 'block': 15, 'address': 30720},
+			{'step': 1, 'does': 'write', 'block': 15, 'page': 0, 'address': 30720}]"
+	json 1 pair $chip no_copy
+	has "d['refusal']['number'] == 7" "d['recovery']['refusal']['number'] == 7" "'steps' not in d['recovery']"
+	json 1 pair $chip differing_more
+	has "d['differing'][1] == {'first': 4, 'last': 7, 'primary': 'late', 'mirror': 'reserved', 'merged': 'factory'}"
+	json 1 pair $two by_linux
+	has "len(d['notes']) == 2" "'header on page 0 only, as Linux writes it above 8,192 blocks' in d['notes'][1]"
+	json 0 pair $chip worn
+	has "len(d['notes']) == 1" "d['notes'][0].startswith('2 entries are reserved (10) and none late (01)')"
+	json 0 update $chip --mark-late 8-10 kinds
+	has "d['command'] == 'update'" "d['marks'] == [{'block': 8, 'from': 'good', 'to': 'late'},
+		{'block': 9, 'from': 'reserved', 'to': 'reserved'}, {'block': 10, 'from': 'late', 'to': 'late'}]" \
+		"d['version'] == 6" "[s['does'] for s in d['steps']] == ['erase', 'write', 'erase', 'write']" \
+		"d['written'] == []" "d['after'] == {'version': 6, 'primary': 12, 'mirror': 15}"
+	json 1 update $chip --mark-late 8 newer
+	has "d['refusal']['number'] == 10" "'steps' not in d"
+	json 0 recover $chip --apply 'new "quoted\' --pages json_pages newer
+	has "d['command'] == 'recover'" "d['steps'][1]['file'] == 'step-01-block-15-page-0.bin'" \
+		"d['written'][0] == {'what': 'dump', 'path': 'new \"quoted\\\\'}" \
+		"d['written'][1] == {'what': 'page', 'path': 'json_pages/step-01-block-15-page-0.bin'}"
+	check "what is told in JSON is written" cmp recovered 'new "quoted\'
+	json 1 recover $chip no_target
+	has "d['refusal']['number'] == 11"
+	odd=$(printf 'odd\377\n\303\251')
+	cp settled "$odd"
+	json 0 pair $chip "$odd"
+	has "d['dump']['name'] == 'odd\ufffd\n\u00e9'"
+	json 0 page page
+	has "d['command'] == 'page'" "d['status'] == 255" "d['tag'] == 1" "d['tag_name'] == 'boot'" "d['path'] == 6" \
+		"d['boot_number'] == 1" "d['generation'] == 2" "d['count'] == 1" "d['repairs'] == 0" "d['repaired'] == []"
+	cp page flawed
+	poke flawed 0 '\376'
+	poke flawed 516 '\003'
+	rm -f mended
+	json 0 page --repaired mended flawed
+	has "d['repairs'] == 2" "d['repaired'] == ['tag', 'first half']" "d['written'][0]['path'] == 'mended'"
+	json 0 page data_page
+	has "'boot_number' not in d"
+	json 1 page --repaired none counted
+	has "d['refusal']['number'] == 2" "d['count'] == 262143"
+	json 1 page erased_page
+	has "d['refusal']['number'] == 5" "d['detail'] == 'the page is erased, all FF'"
+	# wrong arguments and warnings stay on the standard error
+	"$ream" pair $chip --json missing >out 2>err
+	check "nothing but JSON is on the standard output" [ ! -s out ]
+	"$ream" pair --blocks 8 --json last_four >out 2>err
+	check "a warning is on the standard error" grep -q "^ream: warning: last_four: block 6" err
+	has "d['warnings'][0].startswith('last_four: block 6, page 0, at offset 271086, has F7 in byte 750')"
+fi
+
+# ---- simulate
+
+expect 0 "judged after every event: no rule broken" simulate
+cp out first
+expect 0 "no rule broken" simulate --blocks 1024 --seed 1 --events 20
+check "a seed gives the same history again" cmp first out
+expect 0 "no rule broken" simulate --seed 2
+check "another seed gives another history" test -n "$(cmp first out 2>&1)"
+# what make run shows
+expect 0 "=> OLD table kept, v232: the cut update's new primary was not complete" simulate --seed 645 --events 13
+says "=> NEW table kept, v233: the cut update's new primary was complete"
+says "!CUT, step 1: page 0"
+
+# The old table has the version before the last update's, the new one its own.
+kept_as_told() {
+	awk '/ update: / { sub(/^v/, "", $NF); new = ($NF + 1) % 256 }
+		/=> OLD table/ { sub(/.*kept, v/, ""); if (($0 + 1) % 256 != new) exit 1 }
+		/=> NEW table/ { sub(/.*kept, v/, ""); if ($0 + 0 != new) exit 1 }' out
+}
+for blocks in 8 8192 8196 16388 24580 32768; do
+	expect 0 "no rule broken" simulate --blocks $blocks --events 60 --seed $blocks --svg "picture_$blocks"
+	check "the table kept has its version" kept_as_told
+	says "picture written: picture_$blocks"
+	check "the picture is whole" grep -q "^</svg>" "picture_$blocks"
+	check "a cut is drawn" grep -q 'class="cut">CUT' "picture_$blocks"
+done
+expect 0 "picture written: picture_645" simulate --seed 645 --events 13 --svg picture_645
+check "the picture in docs is what make run draws" cmp "$root/docs/power-cuts.svg" picture_645
+# the heads stand again every 40 rows; the bolt of a cut ends left of a number of four digits, 7 wide each
+expect 0 "no rule broken" simulate --events 85 --stop --svg picture_long
+check "the heads of the columns stand three times" [ "$(grep -c 'event, from top to bottom' picture_long)" -eq 3 ]
+expect 0 "no rule broken" simulate --events 39 --stop --svg picture_short
+check "the heads of the columns stand once" [ "$(grep -c 'event, from top to bottom' picture_short)" -eq 1 ]
+clear_of_numbers() {
+	awk -F '"' '/<path transform/ { split($2, at, /[( ]/); bolt = at[2] }
+		/class="number">[0-9]/ { number = $2 } END { exit !(bolt > 0 && bolt + 14 <= number - 4 * 7) }' picture_long
+}
+check "the bolt is clear of the numbers" clear_of_numbers
+check "the legend is right within a plan too" \
+	grep -qF -e "otherwise: the plan goes on, or after a cut a recovery is planned" picture_long
+expect 0 "No good block is left to mark" simulate --blocks 8 --events 2000
+expect 2 "picture_8: is there already" simulate --svg picture_8
+expect_none none 2 "expected at most 1000 events for a picture" simulate --events 1001 --svg none
+expect_none none 2 "--events 0: out of range, expected a number from 1 to 100000" simulate --events 0 --svg none
+expect_none none 2 "--blocks 9: out of range, expected a multiple of 4" simulate --blocks 9 --dump none
+expect_none none 2 "--pages-per-block 1: expected at least 4" \
+	simulate --blocks 32768 --pages-per-block 1 --dump none
+expect_none none 2 "one argument too many" simulate --svg none extra
+
+expect 0 "3 events: 1 update planned, 1 power cut, 0 recoveries planned" simulate --seed 6 --events 3 --stop
+expect 0 "1 event: 1 update planned, 0 power cuts, 0 recoveries planned" simulate --events 1 --stop
+expect 0 "1 recovery planned" simulate --seed 6 --events 3
+expect 0 "no rule broken" simulate --blocks 32768 --events 3000 --seed 18446744073709551615
+expect 2 "--seed -8: out of range, expected a number from 0 to 18446744073709551615" simulate --seed -8
+# What a history leaves where it stops can be recovered, and then updated.
+for seed in 1 2 3 4 5 6 7 8 9 10 11 12; do
+	blocks=$((seed % 4 * 8192 + 8192))
+	shape="--blocks $blocks --pages-per-block 5"
+	expect 0 "no rule broken" simulate $shape --seed $seed --events $((seed + 2)) --stop --force \
+		--dump cut --status-out cut_status
+	expect 0 "pair: settled" recover $shape --status cut_status --apply mended --status-out mended_status \
+		--force cut
+	version=$(sed -n 's/^pair: settled, \(version [0-9]*\), .*/\1/p' out)
+	expect 0 "pair: settled, $version," pair $shape --status mended_status mended
+	expect 0 "recover: nothing to do" recover $shape --status mended_status mended
+	expect 0 "pair: settled" update $shape --status mended_status --mark-late 0-7 --apply marked \
+		--status-out marked_status --force mended
+	tail -n 1 out >told
+	expect 0 "pair: settled" pair $shape --status marked_status marked
+	check "a pair is as its plan says" grep -qxF -e "$(cat told)" out
+done
+
+# ---- help, and the manual
+
+for command in pair update recover page simulate; do
+	expect 0 "usage: ream $command" $command --help
+	expect 0 "usage: ream $command" $command --help --nonsense
+	expect 0 "usage: ream $command" $command -h
+	expect 0 "usage: ream $command" help $command
+	"$ream" $command --help | grep -o '^  --[a-z-]*' | sort -u >told
+	while read -r option; do
+		check "the manual tells of $option of $command" grep -qF -e "$(echo "$option" | sed 's/-/\\-/g')" "$manual"
+	done <told
+done
+expect 0 "usage: ream COMMAND" --help
+expect 0 "usage: ream COMMAND" -h
+expect 0 "usage: ream COMMAND" help
+expect 2 "pear: no such command" help pear
+expect 0 "ream 1.0" --version
+
+check "no temporary file is left" test -z "$(find . -name '*.??????')"
+
+# The examples of the manual, as printed.
+sed -n '/^\.EX/,/^\.EE/p' "$manual" | sed -n "s/\\\\-/-/g; s/\\\\(aq/'/g; s/\\\\e/\\\\/g; s/^\\$ //p" >examples
+check "the manual has examples" [ -s examples ]
+mkdir manual
+while read -r line; do
+	(
+		cd manual || exit 2
+		ream() { "$ream" "$@"; }
+		eval "$line"
+	) >out 2>err
+	check "an example of the manual: $line" [ $? -le 1 ]
+	check "an example of the manual, which says what is wrong: $line" [ ! -s err ]
+done <examples
+
+# The plan that the manual prints, and its commands for a chip as far as the parsers of mtd-utils go: on no device.
+plain() { sed "s/\\\\-/-/g; s/\\\\(aq/'/g; s/\\\\e\$/\\\\/"; }
+{ ff $((2 * 64 * 2112)); primary 005; ff $((63 * 2112)); mirror 005; ff $((63 * 2112)); } >region.bin
+sed -n '/^update: 4 steps/,/^\.EE/p' "$manual" | sed '/^\.EE/d' | plain >printed
+expect 0 "update: 4 steps" update --blocks 1024 --mark-late 17 --pages steps region.bin
+sed -n '/^update: 4 steps/,/^ *3 /p' out >found
+check "the manual prints the plan as it is" cmp printed found
+sed -n '/^# [fn]/,/[^e]$/p' "$manual" | plain | sed 's|^# ||; s|/dev/mtd0|no_chip|' >chip_commands
+check "the manual has the commands for a chip" [ "$(grep -c '^nanddump\|^flash_erase\|^nandwrite' chip_commands)" -eq 5 ]
+if command -v nanddump >/dev/null && command -v flash_erase >/dev/null && command -v nandwrite >/dev/null; then
+	sh ./chip_commands >out 2>&1
+	check "mtd-utils take the commands' options" [ -z "$(grep -i 'usage\|unrecognized\|invalid\|parse\|--help' out)" ]
+	check "mtd-utils come as far as the chip" [ "$(grep -c 'error!' out)" -ge 5 ]
+fi
+
+if [ $failures -ne 0 ]; then
+	echo "test_ream: $failures of $checks checks failed" >&2
+	exit 1
+fi
+echo "test_ream: $checks checks passed"
