@@ -30,6 +30,11 @@ use spare::WriteAnswer;
 // The answer of a call that was not refused and tells no number.
 const ANSWERED: u64 = 0;
 
+// The bytes that tell what a spare holds, and what a page holds.
+const SPARE_FIELDS: usize = SmallChip::FIELDS;
+
+const PAGE_FIELDS: usize = SmallChip::FIELDS;
+
 // The bytes of a plan's steps: sixteen of four.
 const STEPS: usize = 64;
 
@@ -104,7 +109,7 @@ pub extern "C" fn ream_spare_read(spare: &[u8], fields: &mut [u8]) -> u64
     ensures answer { λ r. ⌜ r ≡ spareCode (now (spare .entry)) (now (fields .entry)) ⌝ }
     ensures out { λ _. ⌜ now (fields .exit) ≡ spareFieldsAfter (now (spare .entry)) (now (fields .entry)) ⌝ }
 {
-    if fields.len() != SmallChip::FIELDS {
+    if fields.len() != SPARE_FIELDS {
         return refusal_code(Refusal::Length);
     }
     match spare::read_spare(spare) {
@@ -124,7 +129,7 @@ pub extern "C" fn ream_page_read(bytes: &mut [u8], spare: &[u8], fields: &mut [u
     ensures page { λ _. ⌜ now (bytes .exit) ≡ pageDataAfter (now (bytes .entry)) (now (spare .entry)) (now (fields .entry)) ⌝ }
     ensures out { λ _. ⌜ now (fields .exit) ≡ pageFieldsAfter (now (bytes .entry)) (now (spare .entry)) (now (fields .entry)) ⌝ }
 {
-    if fields.len() != SmallChip::FIELDS {
+    if fields.len() != PAGE_FIELDS {
         return refusal_code(Refusal::Length);
     }
     match spare::read_page(bytes, spare) {

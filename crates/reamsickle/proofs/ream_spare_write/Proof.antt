@@ -1,7 +1,7 @@
 -- `ream_spare_write` meets its contract: the answer of `write_spare` as a number.
 -- Assumes nothing.
-use mathlib.Core.Path.{refl, sym, _∙_}
-use Rattle.reamsickle.specs.Boundary.{writeCode}
+use mathlib.Core.Path.{sym, ap, _∙_}
+use Rattle.reamsickle.specs.Boundary.{writeCodeBy, writeCode}
 use borrow.Author.Needs.{needs}
 use Rattle.reamsickle.proofs.ream_spare_write.Statement.{statement}
 use Rattle.reamsickle.proofs.ream_spare_write.Tie as tie
@@ -23,14 +23,16 @@ same-length c = search needs
 
 returns : tie.Need-returns
 unfolding writeCode
-returns c = let w = c .before .before .before .before .write-spare .ensures in let e = sym (w .0) ∙ c .enum-told .given .1 in (rw e refl, w .1)
+returns c = let w = c .before .before .before .before .write-spare .ensures in (ap writeCodeBy (sym (c .enum-told .given .1) ∙ w .0), w .1)
 
 same-length-2 : tie.Need-same-length-2
 same-length-2 c = search needs
 
 returns-2 : tie.Need-returns-2
 unfolding writeCode
-returns-2 c = let w = c .before .before .before .before .before .before .write-spare .ensures in let e = sym (w .0) ∙ c .before .before .r .given .1 in (rw e (c .refusal-code .ensures), w .1)
+returns-2 c =
+    let w = c .before .before .before .before .before .before .write-spare .ensures in
+    (c .refusal-code .ensures ∙ ap writeCodeBy (sym (c .before .before .r .given .1) ∙ w .0), w .1)
 
 pub ream-spare-write-spec : {M : Type 1} → statement M
 ream-spare-write-spec =
