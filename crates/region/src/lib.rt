@@ -79,12 +79,12 @@ fn locate(chip: LargeChip, image: &[u8], status: &[u8], kind: Kind) -> Located
 {
     let region = chip.region;
     let mut count: u8 = 0;
-    let mut last: u8 = 0;
+    let mut last = RegionBlock(0);
     let mut b: u8 = 0;
     while b < region {
         if good_copy(chip, image, status, kind, RegionBlock(b)) {
             count += 1;
-            last = b;
+            last = RegionBlock(b);
         }
         b += 1;
     }
@@ -92,7 +92,7 @@ fn locate(chip: LargeChip, image: &[u8], status: &[u8], kind: Kind) -> Located
         return Located::Nowhere;
     }
     if count == 1 {
-        return Located::Only(RegionBlock(last));
+        return Located::Only(last);
     }
     Located::Several
 }
@@ -302,17 +302,17 @@ fn highest_free(chip: LargeChip, image: &[u8], status: &[u8], avoid: RegionBlock
 {
     let region = chip.region;
     let mut found = false;
-    let mut last: u8 = 0;
+    let mut last = RegionBlock(0);
     let mut b: u8 = 0;
     while b < region {
         if is_free(chip, image, status, avoid, RegionBlock(b)) {
             found = true;
-            last = b;
+            last = RegionBlock(b);
         }
         b += 1;
     }
     if found {
-        return TargetAnswer::Found(RegionBlock(last));
+        return TargetAnswer::Found(last);
     }
     TargetAnswer::Missing
 }

@@ -9,13 +9,14 @@ use Rattle.bbt.specs.Copies.{Found, find, good, also}
 use Rattle.bbt.specs.Pages.{seen}
 use Rattle.bbt.proofs.Searches.{find-next}
 use Rattle.chip.specs.Large.{pagesOf}
+use Rattle.chip.specs.declared.RegionBlock.{RegionBlock}
 use Rattle.region.specs.Cases.{locatedBy}
 use Rattle.region.proofs.Locating.{foundBy, found-more, found-several}
 use Rattle.region.proofs.locate.Statement.{statement}
 use Rattle.region.proofs.locate.Tie as tie
 
 abbrev Inv-loop : tie.InvT-loop
-Inv-loop chip image status kind region count₀ last₀ b₀ count last b = (b ≤ region) × (count ≤ b) × (find b (good (pagesOf chip) (seen chip image status) kind) ≡ foundBy count last)
+Inv-loop chip image status kind region count₀ last₀ b₀ count last b = (b ≤ region) × (count ≤ b) × (find b (good (pagesOf chip) (seen chip image status) kind) ≡ foundBy count (last .0))
 
 abbrev μ-loop : tie.MeasureT-loop
 μ-loop chip image status kind region count₀ last₀ b₀ count last b = region - b
@@ -45,8 +46,8 @@ loop-again c =
     let good = sym (c .before .good-copy .ensures) in
     let before = c .before .before .before .loop .inv .2 in
     ⊎-elim
-    (λ w. (omega arith, omega arith, find-next b f ∙ ap₂ (λ (t : Bool) (x : Found). also t b x) (good ∙ w .0 .taken) before ∙ found-more (c .before .before .before .loop .count) (c .before .before .before .loop .last) b ∙ ap₂ foundBy (sym (w .1)) (sym (w .2))))
-    (λ w. (omega arith, omega arith, find-next b f ∙ ap₂ (λ (t : Bool) (x : Found). also t b x) (good ∙ w .0 .left) before ∙ ap₂ foundBy (sym (w .1)) (sym (w .2))))
+    (λ w. (omega arith, omega arith, find-next b f ∙ ap₂ (λ (t : Bool) (x : Found). also t b x) (good ∙ w .0 .taken) before ∙ found-more (c .before .before .before .loop .count) (c .before .before .before .loop .last .0) b ∙ ap₂ foundBy (sym (w .1)) (ap (λ (l : RegionBlock). l .0) (sym (w .2)))))
+    (λ w. (omega arith, omega arith, find-next b f ∙ ap₂ (λ (t : Bool) (x : Found). also t b x) (good ∙ w .0 .left) before ∙ ap₂ foundBy (sym (w .1)) (ap (λ (l : RegionBlock). l .0) (sym (w .2)))))
     (c .if1 .came)
 
 returns : tie.Need-returns Inv-loop μ-loop
@@ -54,14 +55,14 @@ returns c =
     let a = c .before .before .before .before .before .args in
     let f = good (pagesOf (a .chip)) (seen (a .chip) (a .image .now) (a .status .now)) (a .kind) in
     let end : c .before .before .loop .b ≡ a .chip .region = omega arith in
-    sym (ap locatedBy (ap (λ (n : ℕ). find n f) (sym end) ∙ c .before .before .loop .inv .2 ∙ ap (λ (n : ℕ). foundBy n (c .before .before .loop .last)) (c .if2 .taken)))
+    sym (ap locatedBy (ap (λ (n : ℕ). find n f) (sym end) ∙ c .before .before .loop .inv .2 ∙ ap (λ (n : ℕ). foundBy n (c .before .before .loop .last .0)) (c .if2 .taken)))
 
 returns-2 : tie.Need-returns-2 Inv-loop μ-loop
 returns-2 c =
     let a = c .before .before .before .before .before .before .args in
     let f = good (pagesOf (a .chip)) (seen (a .chip) (a .image .now) (a .status .now)) (a .kind) in
     let end : c .before .before .before .loop .b ≡ a .chip .region = omega arith in
-    sym (ap locatedBy (ap (λ (n : ℕ). find n f) (sym end) ∙ c .before .before .before .loop .inv .2 ∙ ap (λ (n : ℕ). foundBy n (c .before .before .before .loop .last)) (c .if3 .taken)))
+    sym (ap locatedBy (ap (λ (n : ℕ). find n f) (sym end) ∙ c .before .before .before .loop .inv .2 ∙ ap (λ (n : ℕ). foundBy n (c .before .before .before .loop .last .0)) (c .if3 .taken)))
 
 returns-3 : tie.Need-returns-3 Inv-loop μ-loop
 returns-3 c =
