@@ -36,4 +36,4 @@ no-tag-refused b e s fields long lf good at =
 pub starred : All table
 unfolding recoverCase signedOf difference bothCase compared bit number parityOf ones onesIn pathOf placeBit counts parity codeBit codeFrom notPowers houseNumbers checkBit checkBits encoded nearest
 starred =
-    (refl, (refl, (refl, (refl, (path-bytes 0 _ refl, (path-bytes 1 _ refl, (refl, (path-bytes 6 _ refl, (count-bytes 1 _ refl, (refl, (refl, (no-tag-refused 0x55 refl, (refl, (refl, (refl, ((λ chip R x y p m. refl), tt))))))))))))))))
+    (refl, (refl, (refl, (refl, (path-bytes 0 _ refl, (path-bytes 1 _ refl, (refl, (path-bytes 6 _ refl, (count-bytes 1 _ refl, (refl, (refl, (no-tag-refused _ refl, (refl, (refl, (refl, ((λ chip R x y p m. refl), tt))))))))))))))))

@@ -1,7 +1,9 @@
 -- `ream_page_read` meets its contract: the answer of `read_page` as a number and eleven bytes.
 -- Assumes nothing.
 use mathlib.Core.Path.{refl, sym, _∙_}
+use native.Mathlib.Omega.{arith}
 use borrow.Author.Tests.{eq-eqb, ne-eqb}
+use lib.ListN.{length}
 use Rattle.bits.proofs.Filling.{copied-same}
 use Rattle.reamsickle.specs.Boundary.{pageCode, pageDataAfter, pageFieldsAfter}
 use borrow.Author.Needs.{needs}
@@ -13,7 +15,9 @@ refusal-code-requires c κs = search needs
 
 returns : tie.Need-returns
 unfolding pageCode pageDataAfter pageFieldsAfter
-returns c = let e = ne-eqb _ _ (c .before .if1 .taken) in (c .refusal-code .ensures ∙ simp e, (simp e, simp e))
+returns c =
+    let e = ne-eqb (length (c .before .before .before .before .before .args .fields .now)) 11 (λ told. c .before .if1 .taken (omega arith)) in
+    (c .refusal-code .ensures ∙ simp e, (simp e, simp e))
 
 read-page-requires : tie.Need-read-page-requires
 read-page-requires c κs = search needs

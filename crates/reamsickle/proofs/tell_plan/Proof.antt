@@ -4,6 +4,7 @@ use mathlib.Core.Path.{refl, sym, subst, ap, _∙_}
 use Prim.Native.Nat.{ℕ, _+_, _*_, _≤_}
 use native.Mathlib.Omega.{arith}
 use borrow.Author.Tests.{eq-eqb, ne-eqb}
+use lib.ListN.{length}
 use Rattle.plan.specs.declared.PlanAnswer.{PlanAnswer}
 use Rattle.reamsickle.specs.LargeBoundary.{planCode, stepsAfter, roomOf}
 use borrow.Author.Needs.{needs}
@@ -27,7 +28,7 @@ refusal-code-requires-2 c κs = search needs
 
 returns : tie.Need-returns
 unfolding planCode stepsAfter
-returns c = let e = sym (c .before .before .before .before .new .ensures) ∙ c .before .before .enum-told .given .1 in let l = ne-eqb _ _ (c .before .if1 .taken) in (c .refusal-code2 .ensures ∙ simp (e, l), simp (e, l))
+returns c = let e = sym (c .before .before .before .before .new .ensures) ∙ c .before .before .enum-told .given .1 in let l = ne-eqb (length (c .before .before .before .before .before .before .args .steps .now)) 64 (λ told. c .before .if1 .taken (omega arith)) in (c .refusal-code2 .ensures ∙ simp (e, l), simp (e, l))
 
 enum-known-answer : tie.Need-enum-known-answer
 enum-known-answer c = search needs
