@@ -27,7 +27,7 @@ use spare::SpareAnswer;
 use spare::SpareFields;
 use spare::WriteAnswer;
 
-// The answer of a call that was not refused and tells no number.
+// Bits 0 to 7 of the answer of a call that was not refused.
 const ANSWERED: u64 = 0;
 
 // The bytes that tell what a spare holds, and what a page holds.
@@ -166,6 +166,7 @@ pub extern "C" fn ream_table_read(n: u64, image: &[u8], status: &[u8], bitmap: &
             256 * (version as u64)
                 + 65536 * ((primary.0 % 65536) as u64)
                 + 4294967296 * ((mirror.0 % 65536) as u64)
+                + ANSWERED
         }
     }
 }
@@ -214,7 +215,7 @@ fn tell_plan(n: u64, answer: PlanAnswer, steps: &mut [u8]) -> u64
                 PlanAnswer::Planned(plan) => {
                     let version = plan.version;
                     put_steps(plan, steps);
-                    256 * (version as u64) + 65536 * (plan.step_count() as u64)
+                    256 * (version as u64) + 65536 * (plan.step_count() as u64) + ANSWERED
                 }
             }
         }

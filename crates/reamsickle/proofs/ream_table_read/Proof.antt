@@ -1,6 +1,7 @@
 -- `ream_table_read` meets its contract: the answer of `read_table` as a number.
 -- Assumes nothing.
-use mathlib.Core.Path.{refl, sym, _∙_}
+use mathlib.Core.Path.{sym, _∙_}
+use native.Mathlib.Nat.{add-zero}
 use Rattle.reamsickle.specs.LargeBoundary.{tableCode}
 use borrow.Author.Needs.{needs}
 use Rattle.reamsickle.proofs.ream_table_read.Statement.{statement}
@@ -42,6 +43,9 @@ mul-result-3 c = search needs
 add-result-2 : tie.Need-add-result-2
 add-result-2 c = search needs
 
+add-result-3 : tie.Need-add-result-3
+add-result-3 c = search needs
+
 same-length : tie.Need-same-length
 same-length c = search needs
 
@@ -54,7 +58,7 @@ same-length-2 c = search needs
 
 returns-2 : tie.Need-returns-2
 unfolding tableCode
-returns-2 c = let w = c .before .before .before .before .before .before .before .read-table .ensures in let e = sym (w .0) ∙ c .before .before .before .version .given .1 in (rw e refl, w .1)
+returns-2 c = let w = c .before .before .before .before .before .before .before .read-table .ensures in let e = sym (w .0) ∙ c .before .before .before .version .given .1 in (rw e (add-zero _), w .1)
 
 pub ream-table-read-spec : {M : Type 1} → statement M
 ream-table-read-spec =
@@ -72,6 +76,7 @@ ream-table-read-spec =
     cast-result-3
     mul-result-3
     add-result-2
+    add-result-3
     same-length
     returns
     same-length-2

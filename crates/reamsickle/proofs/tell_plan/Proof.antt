@@ -2,6 +2,7 @@
 -- Assumes nothing.
 use mathlib.Core.Path.{refl, sym, subst, ap, _∙_}
 use Prim.Native.Nat.{ℕ, _+_, _*_, _≤_}
+use native.Mathlib.Nat.{add-zero}
 use native.Mathlib.Omega.{arith}
 use borrow.Author.Tests.{eq-eqb, ne-eqb}
 use lib.ListN.{length}
@@ -60,6 +61,9 @@ mul-result-2 c = search needs
 add-result : tie.Need-add-result
 add-result c = search needs
 
+add-result-2 : tie.Need-add-result-2
+add-result-2 c = search needs
+
 returns-2 : tie.Need-returns-2
 unfolding planCode stepsAfter
 returns-2 c = let e = sym (c .before .before .before .before .new .ensures) ∙ c .before .before .r .given .1 in (rw e (c .refusal-code .ensures), rw e refl)
@@ -82,7 +86,7 @@ returns-4 c =
     let l = eq-eqb _ _ (c .before .before .before .before .before .before .before .before .if1 .left) in
     let a = c .before .before .before .before .before .before .answer2 .given .1 in
     let version = c .before .before .before .before .before .before .answer2 .given .0 .0 .version in
-    (simp (e, l, a) (ap (λ (n : ℕ). 256 * version + 65536 * n) (c .step-count .ensures)), simp (e, l, a) (c .before .before .before .put-steps .ensures))
+    (simp (e, l, a) (add-zero _ ∙ ap (λ (n : ℕ). 256 * version + 65536 * n) (c .step-count .ensures)), simp (e, l, a) (c .before .before .before .put-steps .ensures))
 
 pub tell-plan-spec : {M : Type 1} → statement M
 tell-plan-spec =
@@ -104,6 +108,7 @@ tell-plan-spec =
     cast-result-2
     mul-result-2
     add-result
+    add-result-2
     returns-2
     returns-3
     same-length
