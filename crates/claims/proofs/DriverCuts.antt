@@ -30,23 +30,23 @@ use Rattle.claims.proofs.Found.{blockOf, seenStep, as-many, step-block,
 
 module _ {chip : LargeChip} where
   -- the plan that a driver has in hand is the one of the history: the same call, snapshot and number; its bytes tell the plan's steps
-  data Follows : DriverHand chip → Hand chip → Type 0 where
+  pub data Follows : DriverHand chip → Hand chip → Type 0 where
     neither : Follows nothing empty
     both : {call : Call} {a : Region chip} {steps : List ℕ} {n i : ℕ} {es : List Step} (q : Plan) (room : List ℕ)
         → answer call (snapshot a) ≡ plan q → steps ≡ stepsPut (toldSteps (toldPlan chip q)) room → n ≡ length (stepsOf (pagesOf chip) q)
         → length es + i ≡ n → Follows (doing call a steps n i) (holding call (snapshot a) i es)
 
-  record Like (w : World chip) (r : Region chip) (h : DriverHand chip) (l : Last) : Type 0 where
+  pub record Like (w : World chip) (r : Region chip) (h : DriverHand chip) (l : Last) : Type 0 where
     hand : Hand chip
     so-far : History w (world r hand l)
     follows : Follows h hand
 
-  abbrev LikeAt : World chip → DriverWorld chip → Type 0
+  abbrev pub LikeAt : World chip → DriverWorld chip → Type 0
   LikeAt w (at r h l) = Like w r h l
 
 -- ---- a step, as the history has it
 module _ (chip : LargeChip) where
-  place : (b : ℕ) → placeOf chip (chipBlock chip b .0) ≡ b
+  pub place : (b : ℕ) → placeOf chip (chipBlock chip b .0) ≡ b
   place b = omega arith
 
 module _ {chip : LargeChip} where
@@ -80,10 +80,10 @@ module _ {chip : LargeChip} where
 
 -- ---- a world that a history from a settled pair leads to
 module _ {chip : LargeChip} where
-  abbrev Reached : World chip → Type 0
+  abbrev pub Reached : World chip → Type 0
   Reached w = (v : World chip) × Start v × History v w
 
-  joined : {u v w : World chip} → History u v → History v w → History u w
+  pub joined : {u v w : World chip} → History u v → History v w → History u w
   joined h start = h
   joined h (next k e) = next (joined h k) e
 
@@ -93,16 +93,16 @@ module _ {chip : LargeChip} (ok : Judged chip) (few : chip .blocks ≤ 32768) (s
   promised s h = safe .promise (s .1) (joined (s .2) h)
 
   -- what is known of the next step: where it is, what its bytes tell, and its page
-  record Next (call : Call) (a : Region chip) (steps : List ℕ) (i : ℕ) (r : Region chip) (e : Step) : Type 0 where
-    harmless : Harmless r e
-    told : driverStep steps i ≡ seenStep chip e
-    its-image : ImageOf e (asked call (snapshot a) i)
+  pub record Next (call : Call) (a : Region chip) (steps : List ℕ) (i : ℕ) (r : Region chip) (e : Step) : Type 0 where
+    pub harmless : Harmless r e
+    pub told : driverStep steps i ≡ seenStep chip e
+    pub its-image : ImageOf e (asked call (snapshot a) i)
 
   block-small : (r : Region chip) (e : Step) → Harmless r e → chipBlock chip (blockOf e) .0 < 65536
   block-small r (erase b) h = omega (arith, few, h .0 .1)
   block-small r (write b p k t) h = omega (arith, few, h .0 .1)
 
-  next-is : {w : World chip} {r a : Region chip} {l : Last} {call : Call} {i : ℕ} {e : Step} {es : List Step} (q : Plan) (room : List ℕ) → Reached w
+  pub next-is : {w : World chip} {r a : Region chip} {l : Last} {call : Call} {i : ℕ} {e : Step} {es : List Step} (q : Plan) (room : List ℕ) → Reached w
       → History w (world r (holding call (snapshot a) i (e ∷ es)) l) → answer call (snapshot a) ≡ plan q
       → i < length (stepsOf (pagesOf chip) q) → Next call a (stepsPut (toldSteps (toldPlan chip q)) room) i r e
   next-is {r = r} {i = i} {e = e} q room s h planned inside =
@@ -126,26 +126,26 @@ module _ {chip : LargeChip} (ok : Judged chip) (few : chip .blocks ≤ 32768) (s
       go (plan q) e = absurd (ne (plan-answered ok r call steps long q e))
 
   -- the plan's bytes and its number of steps
-  planned-both : (r : Region chip) (call : Call) (steps : List ℕ) → length steps ≡ 64 → (q : Plan) → answer call (snapshot r) ≡ plan q
+  pub planned-both : (r : Region chip) (call : Call) (steps : List ℕ) → length steps ≡ 64 → (q : Plan) → answer call (snapshot r) ≡ plan q
       → Follows (doing call r (stepsTold call r steps) (stepsIn (planTold call r steps)) 0) (holding call (snapshot r) 0 (stepsOf (pagesOf chip) q))
   planned-both r call steps long q e =
       let c = count-told ok r call steps long q e in
       both {i = 0} {es = stepsOf (pagesOf chip) q} q steps e (filled ok r call steps long q e) c (omega arith)
 
   -- the first step, of a plan that has one
-  abbrev FirstSmall : Plan → Type 0
+  abbrev pub FirstSmall : Plan → Type 0
   FirstSmall (idle v) = Unit {0}
   FirstSmall (single k b g t) = chipBlock chip b .0 < 65536
   FirstSmall (double p m t) = chipBlock chip p .0 < 65536
 
-  first-small : {w : World chip} {r : Region chip} {l : Last} {call : Call} {a : Snapshot chip} (q : Plan) → Reached w
+  pub first-small : {w : World chip} {r : Region chip} {l : Last} {call : Call} {a : Snapshot chip} (q : Plan) → Reached w
       → History w (world r (holding call a 0 (stepsOf (pagesOf chip) q)) l) → FirstSmall q
   unfolding stepsOf copySteps
   first-small (idle v) s h = tt
   first-small {r = r} (single k b g t) s h = block-small r (erase b) (promised s h .next-step .0)
   first-small {r = r} (double p m t) s h = block-small r (erase p) (promised s h .next-step .0)
 
-  as-told : (o n : Table) (q : Plan) (room : List ℕ) → FirstSmall q
+  pub as-told : (o n : Table) (q : Plan) (room : List ℕ) → FirstSmall q
       → asTold chip o n (length (stepsOf (pagesOf chip) q)) (stepsPut (toldSteps (toldPlan chip q)) room) ≡ asPlanned o n q
   unfolding asPlanned stepsOf copySteps stepsBy toldCopy nthStep
   as-told o n (idle v) room h = refl
@@ -236,8 +236,8 @@ module _ {chip : LargeChip} (ok : Judged chip) (few : chip .blocks ≤ 32768) (s
   event s k (was-refused call steps long ne) = refusing k call steps long ne
   event s k (was-updated wanted steps room long lr z) = updating s k wanted steps room long lr z
   event s k (was-recovered steps l′ long z cl) = recovering k steps l′ long z cl
-  event s k (was-done t l′ page inside long rest d left) = stepping s t l′ page inside long rest (k .hand) (k .so-far) (k .follows) d left
-  event s k (was-cut t l′ page inside long rest d cl) = cutting s t l′ page inside long rest (k .hand) (k .so-far) (k .follows) d cl
+  event s k (was-done t l′ page inside long rest d left) = stepping s t l′ page (omega arith) long rest (k .hand) (k .so-far) (k .follows) d left
+  event s k (was-cut t l′ page inside long rest d cl) = cutting s t l′ page (omega arith) long rest (k .hand) (k .so-far) (k .follows) d cl
   event s k (was-cut-between l′ cl) = record { hand = empty; so-far = next (k .so-far) (cut-between l′ cl); follows = neither }
   event s k (had-no-step none) = k
   event s k had-no-plan = k

@@ -3,4 +3,5 @@ pub mod ReadBack
 pub mod Dependence
 pub mod Found
 pub mod DriverCuts
+pub mod DriverReach
 pub mod BridgeToC

@@ -3,17 +3,17 @@
 use mathlib.Core.Bool.{false}
 use mathlib.Core.List.{List}
 use mathlib.Core.Path.{_≡_}
-use Prim.Native.Nat.{ℕ, _-_, _<_, _≤_}
+use Prim.Native.Nat.{ℕ, _+_, _-_, _<_, _≤_}
 use lib.ListN.{length}
 use Rattle.bbt.specs.Copies.{readsBad}
-use Rattle.bbt.specs.Histories.{one-table}
+use Rattle.bbt.specs.Histories.{one-table, snapshot, Hand, empty, holding, World, world, History}
 use Rattle.bbt.specs.Plans.{Call, for-update, for-recovery}
-use Rattle.bbt.specs.PowerCuts.{NotGoodKept, Outcome}
+use Rattle.bbt.specs.PowerCuts.{NotGoodKept, Outcome, Start}
 use Rattle.bbt.specs.Regions.{Region, view}
 use Rattle.chip.specs.Large.{chipOf, bitmapBytes, pagesOf}
 use Rattle.chip.specs.declared.ChipAnswer.the-variants.{Chip}
 use Rattle.chip.specs.declared.LargeChip.{LargeChip}
-use Rattle.claims.specs.Driver.{refusalIn, DriverStep, erases, writes, driverStep, planTold, imageTold, readTold, tableTold, placeOf, nothing, doing, DriverWorld, at, DriverHistory}
+use Rattle.claims.specs.Driver.{refusalIn, DriverStep, erases, writes, driverStep, planTold, imageTold, readTold, tableTold, placeOf, DriverHand, nothing, doing, DriverWorld, at, DriverHistory}
 
 -- the chip block that a step names is one of N − 4 to N − 1
 abbrev pub BlockInRegion : LargeChip → ℕ → Type 0
@@ -62,3 +62,19 @@ pub record DriverSafe (chip : LargeChip) : Type 0 where
 
 abbrev pub Demand3InC : Type 0
 Demand3InC = (n : ℕ) (chip : LargeChip) → chipOf n ≡ Chip chip → DriverSafe chip
+
+-- ---- nothing is left out
+module _ {chip : LargeChip} where
+  -- a driver has in hand what a history has: the call, the region that it was planned from, the next step's number, and as many steps left
+  abbrev pub SameHand : DriverHand chip → Hand chip → Type 0
+  SameHand nothing empty = Unit {0}
+  SameHand nothing (holding c a j es) = ⊥
+  SameHand (doing call a steps n i) empty = ⊥
+  SameHand (doing call a steps n i) (holding c b j es) = (c ≡ call) × (b ≡ snapshot a) × (j ≡ i) × (length es + i ≡ n)
+
+  -- whatever world a history of demand 3 leads to, a driver's history leads there
+  abbrev pub DriverReaches : World chip → World chip → Type 0
+  DriverReaches (world r k m) (world s h l) = (d : DriverHand chip) × SameHand d h × DriverHistory (at r nothing m) (at s d l)
+
+abbrev pub NothingLeftOutInC : Type 0
+NothingLeftOutInC = (n : ℕ) (chip : LargeChip) → chipOf n ≡ Chip chip → (w v : World chip) → Start w → History w v → DriverReaches w v

@@ -1,0 +1,167 @@
+-- Nothing is left out in C: each event of a history of demand 3 is an event of a driver, whose buffers hold nothing but 00 before each call.
+-- Assumes nothing.
+use mathlib.Core.List.{List, [], _∷_}
+use mathlib.Core.Logic.{_⊎_, inl, inr, ⊎-elim}
+use mathlib.Core.Path.{_≡_, refl, sym, ap, _∙_, subst}
+use Prim.Native.Nat.{ℕ, suc, _-_, _≤_}
+use native.Mathlib.Omega.{arith}
+use lib.ListN.{length, replicate, length-replicate}
+use Rattle.bbt.proofs.LeftPages.{Judged, judge}
+use Rattle.bbt.proofs.PowerCuts.{demand3}
+use Rattle.bbt.proofs.Raw.{chip-valid}
+use Rattle.bbt.specs.Copies.{Table}
+use Rattle.bbt.specs.Histories.{Touches, Done, Cut, Written, OthersKept, Last, one-table, asPlanned, AfterStep, Closes, Snapshot, snapshot, answer, asked, Hand, empty, holding, World, world, Event, plan-refused, update-planned, recovery-planned, step-done, step-cut, cut-between, no-step-left, no-plan, History, start, next}
+use Rattle.bbt.specs.Images.{Imaged}
+use Rattle.bbt.specs.Plans.{Step, erase, write, Plan, stepsOf, plan, updated, Call, for-update, for-recovery, reading, holds}
+use Rattle.bbt.specs.PowerCuts.{settled-at, SafeUnderCuts}
+use Rattle.bbt.specs.Regions.{Region, view, Blank, Complete, Unreadable, Kept}
+use Rattle.chip.specs.Large.{bitmapBytes, pagesOf}
+use Rattle.chip.specs.declared.LargeChip.{LargeChip}
+use Rattle.plan.specs.PageImages.{imageAfterBy}
+use Rattle.claims.specs.Driver.{stepsIn, driverStep, StepTouches, planTold, stepsTold, tableTold, StepDone, StepCut, RestKept, DriverHand, nothing, doing, DriverWorld, at, asTold, StepsLeft, refused as was-refused, update as was-updated, recovery as was-recovered, done as was-done, cut as was-cut, cut-between as was-cut-between, DriverHistory, start as at-start, next as and-then}
+use Rattle.claims.specs.DriverCuts.{SameHand, NothingLeftOutInC}
+use Rattle.claims.proofs.DriverCuts.{Follows, neither, both, place, Reached, joined, next-is, planned-both, first-small, as-told}
+use Rattle.claims.proofs.Found.{seenStep, refused-told, plan-answered, count-told, filled, page-filled, table-told}
+
+-- ---- a step, as a driver has it
+touched : (chip : LargeChip) (e : Step) (b p : ℕ) → Touches e b p → StepTouches chip (seenStep chip e) b p
+touched chip (erase c) b p h = h ∙ sym (place chip c)
+touched chip (write c q k t) b p h = (h .0 ∙ sym (place chip c), h .1)
+
+module _ {chip : LargeChip} where
+  rest : {r s : Region chip} (e : Step) → OthersKept e r s → RestKept (seenStep chip e) r s
+  rest e h b p hb hp n = h b p hb hp (λ z. n (touched chip e b p z))
+
+  -- a page written is the one that the page entry left in its room
+  page-is : {s : Region chip} {b p : ℕ} (x : Imaged) (page : List ℕ) → Written s b p x → Complete s b p (imageAfterBy x page)
+  page-is {s} {b} {p} x page w = rw (w .given) (w .complete)
+
+  done-is : (s : Region chip) (e : Step) (x : Imaged) (page : List ℕ) → Done x e s → StepDone (imageAfterBy x page) (seenStep chip e) s
+  done-is s (erase b) x page h = λ p l. subst (λ (c : ℕ). Blank s c p) (sym (place chip b)) (h p l)
+  done-is s (write b p k t) x page h = subst (λ (c : ℕ). Complete s c p (imageAfterBy x page)) (sym (place chip b)) (page-is x page h)
+
+  cut-is : (r s : Region chip) (e : Step) (x : Imaged) (page : List ℕ) → Cut x e r s → StepCut (imageAfterBy x page) (seenStep chip e) r s
+  cut-is r s (erase b) x page h = λ p l. subst (λ (c : ℕ). Kept r s c p ⊎ (Blank s c p ⊎ Unreadable s c p)) (sym (place chip b)) (h p l)
+  cut-is r s (write b p k t) x page h =
+      subst (λ (c : ℕ). Blank s c p ⊎ (Complete s c p (imageAfterBy x page) ⊎ Unreadable s c p)) (sym (place chip b))
+      (⊎-elim (λ w. inl w) (λ w. inr (⊎-elim (λ v. inl (page-is x page v)) (λ v. inr v) w)) h)
+
+  steps-left : {s : Region chip} {l l′ : Last} (left : ℕ) (es : List Step) → left ≡ length es → AfterStep s es l l′ → StepsLeft s left l l′
+  steps-left left [] e h = record { none = λ z. h; some = λ n. absurd (n e) }
+  steps-left left (x ∷ es) e h = record { none = λ z. absurd (omega arith); some = λ n. h }
+
+-- ---- rooms of the header's lengths
+steps : List ℕ
+steps = replicate 64 0
+
+long-steps : length steps ≡ 64
+unfolding steps
+long-steps = length-replicate {A = ℕ} 64 0
+
+page : List ℕ
+page = replicate 2112 0
+
+long-page : length page ≡ 2112
+unfolding page
+long-page = length-replicate {A = ℕ} 2112 0
+
+-- ---- event by event
+module _ {chip : LargeChip} (ok : Judged chip) (few : chip .blocks ≤ 32768) (safe : SafeUnderCuts chip) {w : World chip} (v : DriverWorld chip) (s : Reached w) where
+  room : List ℕ
+  room = replicate (bitmapBytes chip) 0
+
+  long-room : length room ≡ bitmapBytes chip
+  unfolding room
+  long-room = length-replicate {A = ℕ} (bitmapBytes chip) 0
+
+  record Drives (r : Region chip) (h : Hand chip) (l : Last) : Type 0 where
+    hand : DriverHand chip
+    follows : Follows hand h
+    so-far : DriverHistory v (at r hand l)
+
+  abbrev DrivesTo : World chip → Type 0
+  DrivesTo (world r h l) = Drives r h l
+
+  updating : {r : Region chip} {h : Hand chip} {l : Last} → History w (world r h l) → Drives r h l → (wanted : List ℕ) (p m : ℕ) (o : Table) (q : Plan)
+      → answer (for-update wanted) (snapshot r) ≡ plan q → reading chip (view r) ≡ holds p m o
+      → Drives r (holding (for-update wanted) (snapshot r) 0 (stepsOf (pagesOf chip) q)) (asPlanned o (updated o wanted) q)
+  updating {r} past d wanted p m o q e reads =
+      let call : Call = for-update wanted in
+      let small = first-small ok few safe q s (next past (update-planned wanted p m o q e reads)) in
+      let last : asTold chip (tableTold r room) (updated (tableTold r room) wanted) (stepsIn (planTold call r steps)) (stepsTold call r steps)
+      ≡ asPlanned o (updated o wanted) q =
+      rw (table-told ok r room long-room p m o reads, count-told ok r call steps long-steps q e, filled ok r call steps long-steps q e)
+      (as-told ok few safe o (updated o wanted) q steps small) in
+      let hand = doing call r (stepsTold call r steps) (stepsIn (planTold call r steps)) 0 in
+      record {
+        hand = hand;
+        follows = planned-both ok few safe r call steps long-steps q e;
+        so-far = subst (λ (x : Last). DriverHistory v (at r hand x)) last
+            (and-then (d .so-far) (was-updated wanted steps room long-steps long-room (plan-answered ok r call steps long-steps q e)));
+      }
+
+  -- the next step, done or cut
+  module _ {r : Region chip} {l : Last} {call : Call} {from : Snapshot chip} {i : ℕ} {x : Step} {es : List Step} (t : Region chip) (l′ : Last)
+      (past : History w (world r (holding call from i (x ∷ es)) l)) (others : OthersKept x r t) where
+    stepping : (hand : DriverHand chip) → Follows hand (holding call from i (x ∷ es)) → DriverHistory v (at r hand l) → Done (asked call from i) x t
+        → AfterStep t es l l′ → Drives t (holding call from (suc i) es) l′
+    stepping _ (both {a = a} {steps = bytes} {n = n} q held e f c m) so-far done left =
+        let nx = next-is ok few safe q held s past e (omega arith) in
+        let told : driverStep bytes i ≡ seenStep chip x = ap (λ (b : List ℕ). driverStep b i) f ∙ nx .told in
+        let asks = page-filled ok a call i page long-page in
+        record {
+          hand = doing call a bytes n (suc i);
+          follows = both {i = suc i} {es = es} q held e f c (omega arith);
+          so-far = and-then so-far
+              (was-done {call = call} {a = a} {steps = bytes} {n = n} {i = i} t l′ page (omega arith) long-page (rw told (rest x others)) (rw (told, asks) (done-is t x (asked call (snapshot a) i) page done))
+              (steps-left (n - suc i) es (omega arith) left));
+        }
+
+    cutting : (hand : DriverHand chip) → Follows hand (holding call from i (x ∷ es)) → DriverHistory v (at r hand l) → Cut (asked call from i) x r t
+        → Closes t l l′ → Drives t empty l′
+    cutting _ (both {a = a} {steps = bytes} {n = n} q held e f c m) so-far cut cl =
+        let nx = next-is ok few safe q held s past e (omega arith) in
+        let told : driverStep bytes i ≡ seenStep chip x = ap (λ (b : List ℕ). driverStep b i) f ∙ nx .told in
+        let asks = page-filled ok a call i page long-page in
+        record {
+          hand = nothing;
+          follows = neither;
+          so-far = and-then so-far
+              (was-cut {call = call} {a = a} {steps = bytes} {n = n} {i = i} t l′ page (omega arith) long-page (rw told (rest x others)) (rw (told, asks) (cut-is r t x (asked call (snapshot a) i) page cut)) cl);
+        }
+
+  event : {r : Region chip} {h : Hand chip} {l : Last} {u : World chip} → History w (world r h l) → Drives r h l → Event r l h u → DrivesTo u
+  event {r} {h} {l} past d (plan-refused call x e) =
+      record { hand = d .hand; follows = d .follows; so-far = and-then (d .so-far) (was-refused call steps long-steps (refused-told ok r call steps long-steps x e)) }
+  event past d (update-planned wanted p m o q e reads) = updating past d wanted p m o q e reads
+  event {r} past d (recovery-planned q l′ e cl) = record {
+    hand = doing for-recovery r (stepsTold for-recovery r steps) (stepsIn (planTold for-recovery r steps)) 0;
+    follows = planned-both ok few safe r for-recovery steps long-steps q e;
+    so-far = and-then (d .so-far) (was-recovered steps l′ long-steps (plan-answered ok r for-recovery steps long-steps q e) cl);
+  }
+  event past d (step-done t l′ k e left) = stepping t l′ past k (d .hand) (d .follows) (d .so-far) e left
+  event past d (step-cut t l′ k e cl) = cutting t l′ past k (d .hand) (d .follows) (d .so-far) e cl
+  event past d (cut-between l′ cl) = record { hand = nothing; follows = neither; so-far = and-then (d .so-far) (was-cut-between l′ cl) }
+  event past d no-step-left = d
+  event past d no-plan = d
+
+  history : {x u : World chip} → History w x → DrivesTo x → History x u → DrivesTo u
+  history past d start = d
+  history past d (next h e) = event (joined past h) (history past d h) e
+
+same-hand : {chip : LargeChip} (d : DriverHand chip) (h : Hand chip) → Follows d h → SameHand d h
+same-hand _ _ neither = tt
+same-hand _ _ (both q room e f c m) = (refl, refl, refl, m)
+
+pub nothing-left-out-in-c : NothingLeftOutInC
+nothing-left-out-in-c n chip e _ (world t h l) (settled-at {r} {t = o} settled) past =
+    let w = world r empty (one-table o) in
+    let v = at r nothing (one-table o) in
+    let d = history ok few (demand3 n chip e) v (w, settled-at settled, start) start (record { hand = nothing; follows = neither; so-far = at-start }) past in
+    (d .hand, same-hand (d .hand) h (d .follows), d .so-far)
+  where
+    ok : Judged chip
+    ok = judge n chip e
+
+    few : chip .blocks ≤ 32768
+    few = let v = chip-valid n chip e in omega arith
