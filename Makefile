@@ -114,21 +114,31 @@ bench: $(host)/bench
 test:
 	.ci/run
 
-host-test: $(host)/host_test $(host)/host_test_sanitized cuts-test tool-test install-test replay
-	$(host)/host_test
-	$(host)/host_test_sanitized
+# Each program is tried plain and with sanitizers; make -j tries them side by side.
+define trials
+.PHONY: entries-$(1) cuts-$(1) tool-$(1)
+
+entries-$(1): $(host)/host_test$(2)
+	$(host)/host_test$(2)
+
+cuts-$(1): $(host)/histories$(2)
+	$(host)/histories$(2)
+
+tool-$(1): $(host)/ream$(2)
+	host/ream/test_ream.sh $(host)/ream$(2)
+endef
+
+$(eval $(call trials,plain,))
+$(eval $(call trials,sanitized,_sanitized))
+
+host-test: entries-plain entries-sanitized cuts-test tool-test install-test replay
 
 # The last run is interrupted: it ends well, with what it counted.
-cuts-test: $(host)/histories $(host)/histories_sanitized
-	$(host)/histories
-	$(host)/histories_sanitized
+cuts-test: cuts-plain cuts-sanitized
 	timeout --preserve-status -s INT 1 $(host)/histories 1 0 > $(host)/interrupted.txt
 	tail -n 1 $(host)/interrupted.txt | grep interrupted
 
-# The tool's own test.
-tool-test: $(host)/ream $(host)/ream_sanitized
-	host/ream/test_ream.sh $(host)/ream
-	host/ream/test_ream.sh $(host)/ream_sanitized
+tool-test: tool-plain tool-sanitized
 
 # The inputs of the fuzzed target, without libFuzzer.
 replay: $(host)/replay
