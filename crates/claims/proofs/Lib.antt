@@ -1,3 +1,4 @@
+pub mod Starred
 pub mod Blocks
 pub mod ReadBack
 pub mod Dependence

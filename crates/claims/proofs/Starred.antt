@@ -11,12 +11,12 @@ use Rattle.bits.specs.Bytes.{wordBytes}
 use Rattle.chip.specs.Boot.{pathOf}
 use Rattle.ecc.specs.Half.{placeBit, counts, parity, codeBit, codeFrom}
 use Rattle.hamming.specs.Word.{notPowers, houseNumbers, checkBit, checkBits, encoded}
-use Rattle.reamsickle.specs.Examples.{Holds, path, count, no-tag, All, table}
+use Rattle.claims.specs.Examples.{Holds, path, count, no-tag, All, table}
 use Rattle.spare.specs.Reading.{spareAnswer}
 use Rattle.spare.specs.Tags.{tags, nearest}
 use Rattle.spare.specs.Writing.{spareOf, magicAndCount}
 use Rattle.spare.specs.declared.NearestTag.the-variants.{Missing}
 use Rattle.reamsickle.specs.Boundary.{spareCode}
 use borrow.Author.Tests.{eq-eqb}
 use lib.ListN.{length}
 
