@@ -25,6 +25,10 @@ failures=0
 
 # ---- checks
 
+skipped() { # PART: WHY
+	echo "test_ream: not tried, $1"
+}
+
 check() { # NAME COMMAND..: the command succeeds
 	checks=$((checks + 1))
 	name=$1
@@ -654,6 +658,8 @@ end_by TERM 15 "$ream"
 # a shell has its background ignore SIGINT
 if env --default-signal=INT true 2>/dev/null; then
 	end_by INT 2 env --default-signal=INT "$ream"
+else
+	skipped "an interrupt: env cannot give signals back"
 fi
 
 # Only a terminal is told, and only from the second second on.
@@ -669,6 +675,8 @@ if command -v script >/dev/null; then
 	script -qec "sh slow.sh" /dev/null >told 2>&1 </dev/null
 	check "a terminal is told how far it is" grep -qF -e "ream: reading: 0 MB" told
 	check "a terminal is not told of what is done soon" [ "$(grep -c MB told)" -eq 1 ]
+else
+	skipped "progress on a terminal: there is no script"
 fi
 
 # ---- page
@@ -820,6 +828,8 @@ if command -v python3 >/dev/null && python3 -c 'import json' 2>/dev/null; then
 	"$ream" pair --blocks 8 --json last_four >out 2>err
 	check "a warning is on the standard error" grep -q "^ream: warning: last_four: block 6" err
 	has "d['warnings'][0].startswith('last_four: block 6, page 0, at offset 271086, has F7 in byte 750')"
+else
+	skipped "JSON: there is no python3"
 fi
 
 # ---- simulate
@@ -941,6 +951,8 @@ if command -v nanddump >/dev/null && command -v flash_erase >/dev/null && comman
 	sh ./chip_commands >out 2>&1
 	check "mtd-utils take the commands' options" [ -z "$(grep -i 'usage\|unrecognized\|invalid\|parse\|--help' out)" ]
 	check "mtd-utils come as far as the chip" [ "$(grep -c 'error!' out)" -ge 5 ]
+else
+	skipped "the manual's commands for a chip: there are no mtd-utils"
 fi
 
 if [ $failures -ne 0 ]; then

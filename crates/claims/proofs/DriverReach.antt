@@ -13,15 +13,15 @@ use Rattle.bbt.specs.Copies.{Table}
 use Rattle.bbt.specs.Histories.{Touches, Done, Cut, Written, OthersKept, Last, one-table, asPlanned, AfterStep, Closes, Snapshot, snapshot, answer, asked, Hand, empty, holding, World, world, Event, plan-refused, update-planned, recovery-planned, step-done, step-cut, cut-between, no-step-left, no-plan, History, start, next}
 use Rattle.bbt.specs.Images.{Imaged}
 use Rattle.bbt.specs.Plans.{Step, erase, write, Plan, stepsOf, plan, updated, Call, for-update, for-recovery, reading, holds}
-use Rattle.bbt.specs.PowerCuts.{settled-at, SafeUnderCuts}
+use Rattle.bbt.specs.PowerCuts.{settled-at, Settled, SafeUnderCuts}
 use Rattle.bbt.specs.Regions.{Region, view, Blank, Complete, Unreadable, Kept}
 use Rattle.chip.specs.Large.{bitmapBytes, pagesOf}
 use Rattle.chip.specs.declared.LargeChip.{LargeChip}
 use Rattle.plan.specs.PageImages.{imageAfterBy}
 use Rattle.claims.specs.Driver.{stepsIn, driverStep, StepTouches, planTold, stepsTold, tableTold, StepDone, StepCut, RestKept, DriverHand, nothing, doing, DriverWorld, at, asTold, StepsLeft, refused as was-refused, update as was-updated, recovery as was-recovered, done as was-done, cut as was-cut, cut-between as was-cut-between, DriverHistory, start as at-start, next as and-then}
-use Rattle.claims.specs.DriverCuts.{SameHand, NothingLeftOutInC}
+use Rattle.claims.specs.DriverCuts.{DriverStart, from-settled, SameHand, NothingLeftOutInC}
 use Rattle.claims.proofs.DriverCuts.{Follows, neither, both, place, Reached, joined, next-is, planned-both, first-small, as-told}
-use Rattle.claims.proofs.Found.{seenStep, refused-told, plan-answered, count-told, filled, page-filled, table-told}
+use Rattle.claims.proofs.Found.{seenStep, refused-told, plan-answered, count-told, filled, page-filled, read-answered, table-told}
 
 -- ---- a step, as a driver has it
 touched : (chip : LargeChip) (e : Step) (b p : ℕ) → Touches e b p → StepTouches chip (seenStep chip e) b p
@@ -149,6 +149,14 @@ module _ {chip : LargeChip} (ok : Judged chip) (few : chip .blocks ≤ 32768) (s
   history past d start = d
   history past d (next h e) = event (joined past h) (history past d h) e
 
+-- a settled pair is one that ream_table_read answers, with the table that it holds
+begins : {chip : LargeChip} (ok : Judged chip) {r : Region chip} {o : Table} → Settled r o → DriverStart (at r nothing (one-table o))
+begins {chip} ok {r} {o} (p, m, e) =
+    let room : List ℕ = replicate (bitmapBytes chip) 0 in
+    let long : length room ≡ bitmapBytes chip = length-replicate {A = ℕ} (bitmapBytes chip) 0 in
+    subst (λ (t : Table). DriverStart (at r nothing (one-table t))) (table-told ok r room long p m o e)
+    (from-settled room (long, read-answered ok r room long p m o e))
+
 same-hand : {chip : LargeChip} (d : DriverHand chip) (h : Hand chip) → Follows d h → SameHand d h
 same-hand _ _ neither = tt
 same-hand _ _ (both q room e f c m) = (refl, refl, refl, m)
@@ -158,7 +166,7 @@ nothing-left-out-in-c n chip e _ (world t h l) (settled-at {r} {t = o} settled) 
     let w = world r empty (one-table o) in
     let v = at r nothing (one-table o) in
     let d = history ok few (demand3 n chip e) v (w, settled-at settled, start) start (record { hand = nothing; follows = neither; so-far = at-start }) past in
-    (d .hand, same-hand (d .hand) h (d .follows), d .so-far)
+    (begins ok settled, d .hand, same-hand (d .hand) h (d .follows), d .so-far)
   where
     ok : Judged chip
     ok = judge n chip e

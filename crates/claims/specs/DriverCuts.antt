@@ -72,9 +72,10 @@ module _ {chip : LargeChip} where
   SameHand (doing call a steps n i) empty = ⊥
   SameHand (doing call a steps n i) (holding c b j es) = (c ≡ call) × (b ≡ snapshot a) × (j ≡ i) × (length es + i ≡ n)
 
-  -- whatever world a history of demand 3 leads to, a driver's history leads there
+  -- where a history of demand 3 starts, a driver's can start, and whatever world the one leads to, the other leads there
   abbrev pub DriverReaches : World chip → World chip → Type 0
-  DriverReaches (world r k m) (world s h l) = (d : DriverHand chip) × SameHand d h × DriverHistory (at r nothing m) (at s d l)
+  DriverReaches (world r k m) (world s h l) =
+      DriverStart (at r nothing m) × (d : DriverHand chip) × SameHand d h × DriverHistory (at r nothing m) (at s d l)
 
 abbrev pub NothingLeftOutInC : Type 0
 NothingLeftOutInC = (n : ℕ) (chip : LargeChip) → chipOf n ≡ Chip chip → (w v : World chip) → Start w → History w v → DriverReaches w v
