@@ -18,7 +18,8 @@ enum {
 
 /* The region as it is lent. */
 #define LENT(region) \
-	(region)->n, (region)->image, region_image_len(region), (region)->status, region_status_len(region)
+	(region)->n, (region)->size, (region)->image, region_image_len(region), (region)->status, \
+	region_status_len(region)
 
 static uint64_t plan(struct build *build, bool update, uint8_t *steps)
 {
@@ -53,7 +54,7 @@ static void carry_out(struct build *build, bool update, unsigned most)
 		return;
 	for (unsigned i = 0; i < ream_step_count(answer) && i < most; i++) {
 		const struct ream_step step = ream_step_get(steps + (size_t)REAM_STEP_SIZE * i);
-		const unsigned block = (unsigned)(step.block - (region->n - REGION_BLOCKS));
+		const unsigned block = (unsigned)(step.block - region_first(region));
 
 		if (step.kind == REAM_ERASE) {
 			region_erase(region, block);
@@ -69,7 +70,8 @@ static void perform(struct build *build, struct input *input)
 	struct region *region = &build->region;
 	const enum act act = (enum act)(take(input) % ACTS);
 	const uint8_t place = take(input);
-	const unsigned block = place & 3, page = (place >> 2 & 3u) % region->pages, bit = place >> 4 & 1;
+	const unsigned block = (place & 7u) % region->size, page = (place >> 3 & 3u) % region->pages;
+	const unsigned bit = place >> 5 & 1;
 	unsigned at;
 
 	switch (act) {
@@ -112,10 +114,10 @@ static void perform(struct build *build, struct input *input)
 	}
 }
 
-void build_region(struct build *build, struct input *input, uint64_t n)
+void build_region(struct build *build, struct input *input, uint64_t n, unsigned size)
 {
 	build->state = n;
-	region_begin(&build->region, n);
+	region_begin(&build->region, n, size);
 	for (unsigned i = 0; i < TABLES; i++)
 		take_bytes(input, build->table[i], (size_t)n / 4);
 	for (unsigned acts = take(input) % MOST_ACTS; acts > 0; acts--)

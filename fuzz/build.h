@@ -21,7 +21,8 @@ struct build {
 
 /*
  * The bytes: both tables (take_bytes), the number of acts, the acts. An act is its kind, a byte for its place
- * (bits 0-1 the block, bits 2-3 the page, bit 4 the table or the kind of copy), and what the kind asks for:
+ * (bits 0-2 the block, modulo the region's size, bits 3-4 the page, modulo P, bit 5 the table or the kind of
+ * copy), and what the kind asks for:
  *
  *	0	write a primary: version
  *	1	write a mirror: version
@@ -35,6 +36,6 @@ struct build {
  *	9	plan an update and carry out some steps of it: how many
  *	10	the same with a recovery
  */
-void build_region(struct build *build, struct input *input, uint64_t n);
+void build_region(struct build *build, struct input *input, uint64_t n, unsigned size);
 
 #endif

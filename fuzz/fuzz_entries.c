@@ -47,7 +47,8 @@ static const uint64_t tags[] = {
 };
 static const uint64_t paths[] = { 0, 1, 6, REAM_PATH_MAX, REAM_PATH_MAX + 1 };
 static const uint64_t counts[] = { 0, 1, REAM_COUNT_MAX, REAM_COUNT_MAX + 1 };
-static const uint64_t sizes[] = { 8, 12, 1024, 8192, 8196, 16388, 24576, 32764, 32768, 4, 10, 32772 };
+static const uint64_t blocks[] = { 8, 12, 1024, 8192, 8196, 16388, 24576, 32764, 32768, 4, 10, 32772, 16 };
+static const uint64_t sizes[] = { 4, 5, 6, 7, 3, 8, 0, ((uint64_t)1 << 32) + 4 };
 static const uint64_t steps[] = { 0, 1, 2, 3, 4, 5, 6, 7, 8, 9, 10, 11 };
 
 #define NUMBERS(of) of, sizeof(of) / sizeof(of[0])
@@ -60,7 +61,8 @@ static const struct {
 	{ "tag", NUMBERS(tags) },
 	{ "path", NUMBERS(paths) },
 	{ "count", NUMBERS(counts) },
-	{ "n", NUMBERS(sizes) },
+	{ "n", NUMBERS(blocks) },
+	{ "size", NUMBERS(sizes) },
 	{ "step", NUMBERS(steps) },
 };
 
@@ -143,12 +145,12 @@ static void lend_page(struct input *input, uint8_t *data, uint8_t *spare)
 	take_flips(input, spare, REAM_SMALL_SPARE_SIZE);
 }
 
-static void lend_region(struct fuzz *fuzz, struct input *input, uint64_t n)
+static void lend_region(struct fuzz *fuzz, struct input *input, uint64_t n, unsigned size)
 {
 	const struct region *region = &fuzz->build.region;
 	struct test *test = &fuzz->test;
 
-	build_region(&fuzz->build, input, n);
+	build_region(&fuzz->build, input, n, size);
 	call_lend_named(test, "image", region->image, region_image_len(region));
 	call_lend_named(test, "status", region->status, region_status_len(region));
 	call_lend_named(test, "wanted", fuzz->build.table[1], (size_t)n / 4);
@@ -176,10 +178,10 @@ static void lend(struct fuzz *fuzz, struct input *input)
 	struct call *call = &fuzz->test.call;
 	uint8_t data[REAM_SMALL_DATA_SIZE];
 
-	if (has_number(call->index, "n") && ream_table_pages(call->number[0]) == 0)
+	if (has_number(call->index, "n") && !ream_region_fits(call->number[0], call->number[1]))
 		lend_filler(call);
 	else if (has_buffer(call->index, "image"))
-		lend_region(fuzz, input, call->number[0]);
+		lend_region(fuzz, input, call->number[0], (unsigned)call->number[1]);
 	else if (call->index == SPARE_READ)
 		lend_page(input, data, call->bytes[0]);
 	else if (call->index == PAGE_READ)
@@ -225,7 +227,7 @@ static struct fuzz *begin(void)
 }
 
 /* What a call is made with depends on the input alone, whichever inputs came before. The lengths of the small
- * chip's entries are the same for every first number. */
+ * chip's entries are the same whatever their numbers are. */
 static void run_input(struct fuzz *fuzz, struct input *input)
 {
 	struct test *test = &fuzz->test;
@@ -237,7 +239,7 @@ static void run_input(struct fuzz *fuzz, struct input *input)
 	take_numbers(input, index, number);
 	told = take_lengths(input, index);
 	test->state = guards;
-	call_begin_large(test, index, number[0]);
+	call_begin_large(test, index, number[0], number[1]);
 	memcpy(test->call.number, number, sizeof(number));
 	lend(fuzz, input);
 	tell(&test->call, &told);

@@ -20,7 +20,12 @@
  * The large chip
  *
  *   A page has 2,048 data bytes and 64 spare bytes, called OOB. The chip has N blocks, N a multiple of 4
- *   from 8 to 32,768; every entry for it takes N first.
+ *   from 8 to 32,768. Its last blocks are the region, in which the tables are kept: size blocks, N - size to
+ *   N - 1, where size is 4 to 7 and at most half of N (so N = 8 allows 4 alone, N = 12 allows 4 to 6). Chips
+ *   in service have 4. Every entry for the large chip takes N first, then size.
+ *
+ *   A table that lies below the region of the size given is not found: of a settled pair ream_table_read() then
+ *   refuses with REAM_NOT_SETTLED if one copy does, and with REAM_NO_COPY if both do.
  *
  *   The bad-block table has an entry of two bits for each block (enum ream_entry). Its bitmap has N/4
  *   bytes, with block b in bits 2(b mod 4) and up of byte b/4. It fills the data of P pages, in rising
@@ -28,7 +33,7 @@
  *   and ignored on reading.
  *
  *   The table is kept twice, as a primary and as a mirror, each copy in the first P pages of a block of its
- *   own. Both blocks lie in the region, the last four blocks of the chip (N - 4 to N - 1).
+ *   own. Both blocks lie in the region.
  *
  *	OOB byte	holds
  *	0-13		the controller's bytes; 0 in OOB 0 of a block's first page can mark a bad block
@@ -37,10 +42,10 @@
  *	19-63		FF
  *
  *   The region is lent as two buffers. The image has the first P pages of each of its blocks, lowest block
- *   first, each page 2,048 + 64 bytes: 4 * P * 2,112 bytes. The status has a byte for each of these pages
- *   in the same order, REAM_READ_WELL or REAM_UNREADABLE: 4 * P bytes. An unreadable page's bytes may be
- *   anything. ream_table_pages(), ream_image_size(), ream_status_size() and ream_bitmap_size() give the
- *   sizes for an N.
+ *   first, each page 2,048 + 64 bytes: size * P * 2,112 bytes. The status has a byte for each of these pages
+ *   in the same order, REAM_READ_WELL or REAM_UNREADABLE: size * P bytes. An unreadable page's bytes may be
+ *   anything. ream_image_size() and ream_status_size() give the sizes for an N and a size, ream_table_pages()
+ *   and ream_bitmap_size() for an N; ream_region_fits() tells whether the entries take an N and a size.
  *
  *   A block is a good primary (a good mirror) if its P pages all read well, with that signature and with one
  *   version. It is readable as bad if its first page reads well, has neither signature, and OOB byte 0 is 0.
@@ -111,13 +116,16 @@
  *   was answered, compare ream_refusal() of the answer with REAM_OK, not the answer itself.
  *
  *   A refused call changes no lent byte, outputs included. Where several things are wrong at once the
- *   order of judging decides: N (2), then all lengths (1), then the other arguments (2), then what the
- *   page holds (3, 4, 5, 6) or what the region holds (8, 7, 9, then 10 or 11). A step's number can only be
- *   judged once the plan is known, so its refusal (2) comes last of all. While N is refused no length is
- *   judged. Each entry below names the refusals it can give, in its order.
+ *   order of judging decides: N and size (2), then all lengths (1), then the other arguments (2), then what
+ *   the page holds (3, 4, 5, 6) or what the region holds (8, 7, 9, then 10 or 11). A step's number can only be
+ *   judged once the plan is known, so its refusal (2) comes last of all. While N or size is refused no length
+ *   is judged. Each entry below names the refusals it can give, in its order.
  *
  * What the library cannot see, and the caller owes
  *
+ *   - N and size are the chip's own, and one size for all its life. With a larger one a recovery may erase a
+ *     block that holds data. With a smaller one, a recovery may make a copy again that lies below, and the
+ *     chip's own size then finds two of a kind and is refused with REAM_SEVERAL_COPIES.
  *   - A buffer really has as many bytes as the length beside it says.
  *   - Buffers lent to one call do not overlap.
  *   - No pointer is null, not even beside a length of 0. Where a pointer may be null, call the inline
@@ -138,8 +146,8 @@
  * The library's own version, as text and as a number to compare: 10,000 * major + 100 * minor + patch.
  * (ream_version() gives that of a table or a plan.)
  */
-#define REAM_LIBRARY_VERSION "1.0"
-#define REAM_LIBRARY_VERSION_NUMBER 10000
+#define REAM_LIBRARY_VERSION "2.0"
+#define REAM_LIBRARY_VERSION_NUMBER 20000
 
 /* The refusals. */
 enum ream_refusal_number {
@@ -223,13 +231,14 @@ enum ream_large_size {
 	REAM_LARGE_DATA_SIZE = 2048,	/* a page's data */
 	REAM_LARGE_OOB_SIZE = 64,	/* a page's OOB */
 	REAM_LARGE_PAGE_SIZE = 2112,	/* a page, data and OOB */
-	REAM_REGION_BLOCKS = 4,		/* blocks of the region */
+	REAM_REGION_BLOCKS_MIN = 4,	/* the smallest size of the region, in blocks: that of the chips in service */
+	REAM_REGION_BLOCKS_MAX = 7,	/* the largest */
 	REAM_STEP_SIZE = 4,		/* a step of a plan */
 	REAM_STEPS_SIZE = 64,		/* the room that planning asks for, 16 steps */
 	REAM_BLOCKS_MIN = 8,		/* the smallest N */
-	REAM_BLOCKS_MAX = 32768,	/* the largest N, and with it: */
-	REAM_IMAGE_SIZE_MAX = 33792,
-	REAM_STATUS_SIZE_MAX = 16,
+	REAM_BLOCKS_MAX = 32768,	/* the largest N, and with it and the largest region: */
+	REAM_IMAGE_SIZE_MAX = 59136,
+	REAM_STATUS_SIZE_MAX = 28,
 	REAM_BITMAP_SIZE_MAX = 8192,
 };
 
@@ -307,30 +316,32 @@ uint64_t ream_page_read(uint8_t *data, size_t data_len, const uint8_t *spare, si
  * The first bitmap of a chip, from the factory's marks.
  *
  *	n	the number of blocks, N
+ *	size	the number of region blocks; it is judged, and changes nothing else here
  *	marks	N bytes: OOB byte 0 of the first page of each block, block 0 first
  *	bitmap	N/4 bytes, out: REAM_ENTRY_FACTORY where the mark is 0, REAM_ENTRY_GOOD where it is any
  *		other byte
  *
- * Refuses, in this order: REAM_RANGE (n); REAM_LENGTH. marks is never changed.
+ * Refuses, in this order: REAM_RANGE (n or size); REAM_LENGTH. marks is never changed.
  */
-uint64_t ream_first_bitmap(uint64_t n, const uint8_t *marks, size_t marks_len,
+uint64_t ream_first_bitmap(uint64_t n, uint64_t size, const uint8_t *marks, size_t marks_len,
 			   uint8_t *bitmap, size_t bitmap_len);
 
 /*
  * Reads the table of a settled pair.
  *
  *	n	the number of blocks, N
- *	image	4 * P * 2,112 bytes, the region's pages
- *	status	4 * P bytes, how each of them was read
+ *	size	the number of region blocks
+ *	image	size * P * 2,112 bytes, the region's pages
+ *	status	size * P bytes, how each of them was read
  *	bitmap	N/4 bytes, out: the table, without the rest of its last page
  *
  * An answered call gives the version (bits 8-15) and the chip blocks that hold the primary (bits 16-31) and
- * the mirror (bits 32-47), from N - 4 to N - 1: ream_version(), ream_primary_block(), ream_mirror_block().
+ * the mirror (bits 32-47), from N - size to N - 1: ream_version(), ream_primary_block(), ream_mirror_block().
  *
- * Refuses, in this order: REAM_RANGE (n); REAM_LENGTH; REAM_RANGE (a status byte); REAM_SEVERAL_COPIES;
+ * Refuses, in this order: REAM_RANGE (n or size); REAM_LENGTH; REAM_RANGE (a status byte); REAM_SEVERAL_COPIES;
  * REAM_NO_COPY; REAM_OPPOSITE; REAM_NOT_SETTLED. image and status are never changed.
  */
-uint64_t ream_table_read(uint64_t n, const uint8_t *image, size_t image_len,
+uint64_t ream_table_read(uint64_t n, uint64_t size, const uint8_t *image, size_t image_len,
 			 const uint8_t *status, size_t status_len, uint8_t *bitmap, size_t bitmap_len);
 
 /*
@@ -338,12 +349,13 @@ uint64_t ream_table_read(uint64_t n, const uint8_t *image, size_t image_len,
  * REAM_ENTRY_GOOD, else the wanted one: a block once not good keeps its entry, whatever is wanted.
  *
  *	n	the number of blocks, N
- *	image	4 * P * 2,112 bytes, the region's pages
- *	status	4 * P bytes, how each of them was read
+ *	size	the number of region blocks
+ *	image	size * P * 2,112 bytes, the region's pages
+ *	status	size * P bytes, how each of them was read
  *	wanted	N/4 bytes, a bitmap
  *	steps	64 bytes, out, room for 16 steps; ream_step_get() takes the four bytes of a step apart:
  *		0	kind, enum ream_step_kind
- *		1-2	chip block, big endian, N - 4 to N - 1
+ *		1-2	chip block, big endian, N - size to N - 1
  *		3	page, 0 to P - 1; 0 for an erase
  *		Bytes past the plan's last step keep what they held.
  *
@@ -354,10 +366,10 @@ uint64_t ream_table_read(uint64_t n, const uint8_t *image, size_t image_len,
  * An answered call gives the plan's version (bits 8-15) and its number of steps (bits 16-23):
  * ream_version(), ream_step_count().
  *
- * Refuses, in this order: REAM_RANGE (n); REAM_LENGTH; REAM_RANGE (a status byte); REAM_SEVERAL_COPIES;
+ * Refuses, in this order: REAM_RANGE (n or size); REAM_LENGTH; REAM_RANGE (a status byte); REAM_SEVERAL_COPIES;
  * REAM_NO_COPY; REAM_OPPOSITE; REAM_NOT_SETTLED. image, status and wanted are never changed.
  */
-uint64_t ream_update_plan(uint64_t n, const uint8_t *image, size_t image_len,
+uint64_t ream_update_plan(uint64_t n, uint64_t size, const uint8_t *image, size_t image_len,
 			  const uint8_t *status, size_t status_len, const uint8_t *wanted, size_t wanted_len,
 			  uint8_t *steps, size_t steps_len);
 
@@ -365,8 +377,9 @@ uint64_t ream_update_plan(uint64_t n, const uint8_t *image, size_t image_len,
  * Plans the recovery of a pair, settled or not.
  *
  *	n	the number of blocks, N
- *	image	4 * P * 2,112 bytes, the region's pages
- *	status	4 * P bytes, how each of them was read
+ *	size	the number of region blocks
+ *	image	size * P * 2,112 bytes, the region's pages
+ *	status	size * P bytes, how each of them was read
  *	steps	64 bytes, out: as of ream_update_plan()
  *
  * Of two good copies the newer is the one whose version is 1 to 127 ahead of the other's, counted modulo
@@ -385,16 +398,16 @@ uint64_t ream_update_plan(uint64_t n, const uint8_t *image, size_t image_len,
  * An answered call gives the plan's version (bits 8-15) and its number of steps (bits 16-23):
  * ream_version(), ream_step_count().
  *
- * Refuses, in this order: REAM_RANGE (n); REAM_LENGTH; REAM_RANGE (a status byte); REAM_SEVERAL_COPIES;
+ * Refuses, in this order: REAM_RANGE (n or size); REAM_LENGTH; REAM_RANGE (a status byte); REAM_SEVERAL_COPIES;
  * REAM_NO_COPY; REAM_OPPOSITE; REAM_NO_TARGET. image and status are never changed.
  */
-uint64_t ream_recovery_plan(uint64_t n, const uint8_t *image, size_t image_len,
+uint64_t ream_recovery_plan(uint64_t n, uint64_t size, const uint8_t *image, size_t image_len,
 			    const uint8_t *status, size_t status_len, uint8_t *steps, size_t steps_len);
 
 /*
  * The page that a step of an update's plan writes.
  *
- *	n, image, status, wanted
+ *	n, size, image, status, wanted
  *		as ream_update_plan() was called with: the snapshot that the plan was made from, not the region
  *		as it is by now
  *	step	the step's number in that plan, from 0
@@ -403,28 +416,28 @@ uint64_t ream_recovery_plan(uint64_t n, const uint8_t *image, size_t image_len,
  * The data is the page's part of the new table, with FF after the bitmap's end. In the OOB stand the signature
  * of the copy that the step belongs to (14-17) and the plan's version (18); all other OOB bytes are FF.
  *
- * Refuses, in this order: REAM_RANGE (n); REAM_LENGTH; REAM_RANGE (a status byte); REAM_SEVERAL_COPIES;
+ * Refuses, in this order: REAM_RANGE (n or size); REAM_LENGTH; REAM_RANGE (a status byte); REAM_SEVERAL_COPIES;
  * REAM_NO_COPY; REAM_OPPOSITE; REAM_NOT_SETTLED; REAM_RANGE (a step past the plan's end, or of an erase, so
  * every step of an empty plan). image, status and wanted are never changed.
  */
-uint64_t ream_update_page(uint64_t n, const uint8_t *image, size_t image_len,
+uint64_t ream_update_page(uint64_t n, uint64_t size, const uint8_t *image, size_t image_len,
 			  const uint8_t *status, size_t status_len, const uint8_t *wanted, size_t wanted_len,
 			  uint64_t step, uint8_t *page, size_t page_len);
 
 /*
  * The page that a step of a recovery's plan writes.
  *
- *	n, image, status
+ *	n, size, image, status
  *		as ream_recovery_plan() was called with: the snapshot that the plan was made from, not the
  *		region as it is by now
  *	step	the step's number in that plan, from 0
  *	page	2,112 bytes, out: as of ream_update_page(), with the table that the recovery keeps
  *
- * Refuses, in this order: REAM_RANGE (n); REAM_LENGTH; REAM_RANGE (a status byte); REAM_SEVERAL_COPIES;
+ * Refuses, in this order: REAM_RANGE (n or size); REAM_LENGTH; REAM_RANGE (a status byte); REAM_SEVERAL_COPIES;
  * REAM_NO_COPY; REAM_OPPOSITE; REAM_NO_TARGET; REAM_RANGE (a step past the plan's end, or of an erase, so
  * every step of an empty plan). image and status are never changed.
  */
-uint64_t ream_recovery_page(uint64_t n, const uint8_t *image, size_t image_len,
+uint64_t ream_recovery_page(uint64_t n, uint64_t size, const uint8_t *image, size_t image_len,
 			    const uint8_t *status, size_t status_len, uint64_t step,
 			    uint8_t *page, size_t page_len);
 
@@ -538,15 +551,25 @@ static inline unsigned ream_table_pages(uint64_t n)
 	return (unsigned)((n / 4 + REAM_LARGE_DATA_SIZE - 1) / REAM_LARGE_DATA_SIZE);
 }
 
-/* The bytes of the buffers that the entries take for a chip of n blocks; 0 where n is not valid. */
-static inline size_t ream_image_size(uint64_t n)
+/* 1 where the entries take a chip of n blocks with a region of size blocks, else 0. */
+static inline int ream_region_fits(uint64_t n, uint64_t size)
 {
-	return (size_t)REAM_REGION_BLOCKS * ream_table_pages(n) * REAM_LARGE_PAGE_SIZE;
+	return ream_table_pages(n) != 0 && size >= REAM_REGION_BLOCKS_MIN && size <= REAM_REGION_BLOCKS_MAX
+	       && n >= 2 * size;
 }
 
-static inline size_t ream_status_size(uint64_t n)
+/*
+ * The bytes of the buffers that the entries take for a chip of n blocks with a region of size blocks; 0 where
+ * these are refused. A bitmap's depend on n alone.
+ */
+static inline size_t ream_image_size(uint64_t n, uint64_t size)
 {
-	return (size_t)REAM_REGION_BLOCKS * ream_table_pages(n);
+	return ream_region_fits(n, size) ? (size_t)size * ream_table_pages(n) * REAM_LARGE_PAGE_SIZE : 0;
+}
+
+static inline size_t ream_status_size(uint64_t n, uint64_t size)
+{
+	return ream_region_fits(n, size) ? (size_t)size * ream_table_pages(n) : 0;
 }
 
 static inline size_t ream_bitmap_size(uint64_t n)
@@ -571,7 +594,7 @@ static inline void ream_entry_set(uint8_t *bitmap, uint64_t block, unsigned entr
 /* A step of a plan, as numbers. */
 struct ream_step {
 	uint8_t kind;		/* one of enum ream_step_kind */
-	uint16_t block;		/* chip block, N - 4 to N - 1 */
+	uint16_t block;		/* chip block, N - size to N - 1 */
 	uint8_t page;		/* 0 to P - 1; 0 for an erase */
 };
 
@@ -630,70 +653,70 @@ static inline uint64_t ream_page_read_checked(uint8_t *data, size_t data_len,
 			      fields ? fields : none, fields ? fields_len : 0);
 }
 
-static inline uint64_t ream_first_bitmap_checked(uint64_t n, const uint8_t *marks, size_t marks_len,
+static inline uint64_t ream_first_bitmap_checked(uint64_t n, uint64_t size, const uint8_t *marks, size_t marks_len,
 						 uint8_t *bitmap, size_t bitmap_len)
 {
 	uint8_t none[1] = { 0 };
 
-	return ream_first_bitmap(n, marks ? marks : none, marks ? marks_len : 0,
+	return ream_first_bitmap(n, size, marks ? marks : none, marks ? marks_len : 0,
 				 bitmap ? bitmap : none, bitmap ? bitmap_len : 0);
 }
 
-static inline uint64_t ream_table_read_checked(uint64_t n, const uint8_t *image, size_t image_len,
+static inline uint64_t ream_table_read_checked(uint64_t n, uint64_t size, const uint8_t *image, size_t image_len,
 					       const uint8_t *status, size_t status_len,
 					       uint8_t *bitmap, size_t bitmap_len)
 {
 	uint8_t none[1] = { 0 };
 
-	return ream_table_read(n, image ? image : none, image ? image_len : 0,
+	return ream_table_read(n, size, image ? image : none, image ? image_len : 0,
 			       status ? status : none, status ? status_len : 0,
 			       bitmap ? bitmap : none, bitmap ? bitmap_len : 0);
 }
 
-static inline uint64_t ream_update_plan_checked(uint64_t n, const uint8_t *image, size_t image_len,
+static inline uint64_t ream_update_plan_checked(uint64_t n, uint64_t size, const uint8_t *image, size_t image_len,
 						const uint8_t *status, size_t status_len,
 						const uint8_t *wanted, size_t wanted_len,
 						uint8_t *steps, size_t steps_len)
 {
 	uint8_t none[1] = { 0 };
 
-	return ream_update_plan(n, image ? image : none, image ? image_len : 0,
+	return ream_update_plan(n, size, image ? image : none, image ? image_len : 0,
 				status ? status : none, status ? status_len : 0,
 				wanted ? wanted : none, wanted ? wanted_len : 0,
 				steps ? steps : none, steps ? steps_len : 0);
 }
 
-static inline uint64_t ream_recovery_plan_checked(uint64_t n, const uint8_t *image, size_t image_len,
+static inline uint64_t ream_recovery_plan_checked(uint64_t n, uint64_t size, const uint8_t *image, size_t image_len,
 						  const uint8_t *status, size_t status_len,
 						  uint8_t *steps, size_t steps_len)
 {
 	uint8_t none[1] = { 0 };
 
-	return ream_recovery_plan(n, image ? image : none, image ? image_len : 0,
+	return ream_recovery_plan(n, size, image ? image : none, image ? image_len : 0,
 				  status ? status : none, status ? status_len : 0,
 				  steps ? steps : none, steps ? steps_len : 0);
 }
 
-static inline uint64_t ream_update_page_checked(uint64_t n, const uint8_t *image, size_t image_len,
+static inline uint64_t ream_update_page_checked(uint64_t n, uint64_t size, const uint8_t *image, size_t image_len,
 						const uint8_t *status, size_t status_len,
 						const uint8_t *wanted, size_t wanted_len, uint64_t step,
 						uint8_t *page, size_t page_len)
 {
 	uint8_t none[1] = { 0 };
 
-	return ream_update_page(n, image ? image : none, image ? image_len : 0,
+	return ream_update_page(n, size, image ? image : none, image ? image_len : 0,
 				status ? status : none, status ? status_len : 0,
 				wanted ? wanted : none, wanted ? wanted_len : 0, step,
 				page ? page : none, page ? page_len : 0);
 }
 
-static inline uint64_t ream_recovery_page_checked(uint64_t n, const uint8_t *image, size_t image_len,
+static inline uint64_t ream_recovery_page_checked(uint64_t n, uint64_t size, const uint8_t *image, size_t image_len,
 						  const uint8_t *status, size_t status_len, uint64_t step,
 						  uint8_t *page, size_t page_len)
 {
 	uint8_t none[1] = { 0 };
 
-	return ream_recovery_page(n, image ? image : none, image ? image_len : 0,
+	return ream_recovery_page(n, size, image ? image : none, image ? image_len : 0,
 				  status ? status : none, status ? status_len : 0, step,
 				  page ? page : none, page ? page_len : 0);
 }

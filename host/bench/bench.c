@@ -3,7 +3,7 @@
  *
  * Each round goes through many different inputs, 2,048 pages or 64 regions, first by the library, then by the
  * reference; one input repeated would let the processor learn its bits by heart. The figures are the medians
- * of the rounds, in nanoseconds a call, and the ratio of the two. What is lent (1 MB of pages, up to 2 MB of
+ * of the rounds, in nanoseconds a call, and the ratio of the two. What is lent (1 MB of pages, up to 4 MB of
  * regions) is written anew before each timing, so that it is as warm for the one as for the other.
  *
  * Of the small chip the reference is written to be read and not to be fast. So the code of a half, on which its
@@ -72,6 +72,11 @@ static double timed(struct bench *bench, const struct trial *trial, const struct
 	return time / inputs / times;
 }
 
+double time_library(struct bench *bench, const struct trial *trial, unsigned inputs, unsigned times)
+{
+	return timed(bench, trial, &library, inputs, times);
+}
+
 void run(struct bench *bench, const struct trial *trial, unsigned inputs, unsigned times)
 {
 	double ours[ROUNDS], theirs[ROUNDS];
@@ -109,6 +114,7 @@ int main(void)
 	bench_halves(bench);
 	bench_large(bench, REAM_BLOCKS_MIN);
 	bench_large(bench, REAM_BLOCKS_MAX);
+	bench_sizes(bench, REAM_BLOCKS_MAX);
 	free(bench);
 	return EXIT_SUCCESS;
 }

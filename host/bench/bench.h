@@ -23,6 +23,8 @@ enum state {
 	BEHIND,		/* the mirror is one version behind, with an older table */
 	ALONE,		/* the primary alone is good */
 	DIFFERING,	/* versions equal, bitmaps different */
+	CROWDED,	/* a settled pair, and in every other block a copy with its last page unreadable */
+	CROWDED_ALONE,	/* the primary alone is good, and every other block is such a copy */
 	STATES,
 };
 
@@ -32,14 +34,16 @@ struct implementation {
 	uint64_t (*spare_write)(const uint8_t *, size_t, uint64_t, uint64_t, uint64_t, uint8_t *, size_t);
 	uint64_t (*spare_read)(const uint8_t *, size_t, uint8_t *, size_t);
 	uint64_t (*page_read)(uint8_t *, size_t, const uint8_t *, size_t, uint8_t *, size_t);
-	uint64_t (*first_bitmap)(uint64_t, const uint8_t *, size_t, uint8_t *, size_t);
-	uint64_t (*table_read)(uint64_t, const uint8_t *, size_t, const uint8_t *, size_t, uint8_t *, size_t);
-	uint64_t (*update_plan)(uint64_t, const uint8_t *, size_t, const uint8_t *, size_t, const uint8_t *, size_t,
-				uint8_t *, size_t);
-	uint64_t (*recovery_plan)(uint64_t, const uint8_t *, size_t, const uint8_t *, size_t, uint8_t *, size_t);
-	uint64_t (*update_page)(uint64_t, const uint8_t *, size_t, const uint8_t *, size_t, const uint8_t *, size_t,
-				uint64_t, uint8_t *, size_t);
-	uint64_t (*recovery_page)(uint64_t, const uint8_t *, size_t, const uint8_t *, size_t, uint64_t,
+	uint64_t (*first_bitmap)(uint64_t, uint64_t, const uint8_t *, size_t, uint8_t *, size_t);
+	uint64_t (*table_read)(uint64_t, uint64_t, const uint8_t *, size_t, const uint8_t *, size_t,
+			       uint8_t *, size_t);
+	uint64_t (*update_plan)(uint64_t, uint64_t, const uint8_t *, size_t, const uint8_t *, size_t,
+				const uint8_t *, size_t, uint8_t *, size_t);
+	uint64_t (*recovery_plan)(uint64_t, uint64_t, const uint8_t *, size_t, const uint8_t *, size_t,
+				  uint8_t *, size_t);
+	uint64_t (*update_page)(uint64_t, uint64_t, const uint8_t *, size_t, const uint8_t *, size_t,
+				const uint8_t *, size_t, uint64_t, uint8_t *, size_t);
+	uint64_t (*recovery_page)(uint64_t, uint64_t, const uint8_t *, size_t, const uint8_t *, size_t, uint64_t,
 				  uint8_t *, size_t);
 };
 
@@ -56,6 +60,7 @@ struct bench {
 	uint8_t code[3];
 
 	uint64_t n;					/* the blocks of the chip */
+	unsigned size;					/* and of its region */
 	size_t bitmap_len;
 	struct region prepared[STATES][REGIONS];
 	struct region region[REGIONS];			/* lent */
@@ -81,6 +86,9 @@ struct trial {
  * makes it so often. */
 void run(struct bench *bench, const struct trial *trial, unsigned inputs, unsigned times);
 
+/* The time of one call of the library, in nanoseconds, by a single timing. */
+double time_library(struct bench *bench, const struct trial *trial, unsigned inputs, unsigned times);
+
 /* The heads of the columns of such rows. */
 void print_heads(void);
 
@@ -93,10 +101,11 @@ double median(double *times);
 /* Draws the pages, writes their spares and flips one bit of each page and of each path word. */
 void prepare_pages(struct bench *bench);
 
-/* The tables: the small chip's entries, the code of a half by all who can make it, and the large chip's entries
- * on a chip of n blocks. */
+/* The tables: the small chip's entries, the code of a half by all who can make it, the large chip's entries on a
+ * chip of n blocks with the smallest region, and some of them by the size of the region. */
 void bench_small(struct bench *bench);
 void bench_halves(struct bench *bench);
 void bench_large(struct bench *bench, uint64_t n);
+void bench_sizes(struct bench *bench, uint64_t n);
 
 #endif

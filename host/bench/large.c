@@ -11,13 +11,25 @@
 enum {
 	FEWEST_CALLS = 1024,	/* that a timing makes, where a call is short */
 	SHORT_CALL = 1024,	/* a call on a chip of fewer blocks is */
+	REGION_SIZES = MOST_REGION_BLOCKS - FEWEST_REGION_BLOCKS + 1,
+	SIZE_TIMES = 16,	/* how often a timing by the size of the region goes through all inputs */
 };
 
 /* ---- what a round is lent */
 
+/* Of each region as many bytes as its calls are told. */
 static void lend_regions(struct bench *bench, enum state state)
 {
-	memcpy(bench->region, bench->prepared[state], sizeof(bench->region));
+	for (unsigned i = 0; i < REGIONS; i++) {
+		const struct region *from = &bench->prepared[state][i];
+		struct region *region = &bench->region[i];
+
+		region->n = from->n;
+		region->size = from->size;
+		region->pages = from->pages;
+		memcpy(region->image, from->image, region_image_len(from));
+		memcpy(region->status, from->status, region_status_len(from));
+	}
 }
 
 static void lend_settled(struct bench *bench)
@@ -40,6 +52,16 @@ static void lend_differing(struct bench *bench)
 	lend_regions(bench, DIFFERING);
 }
 
+static void lend_crowded(struct bench *bench)
+{
+	lend_regions(bench, CROWDED);
+}
+
+static void lend_crowded_alone(struct bench *bench)
+{
+	lend_regions(bench, CROWDED_ALONE);
+}
+
 static void lend_marks(struct bench *bench)
 {
 	memcpy(bench->marks, bench->factory, sizeof(bench->marks));
@@ -48,14 +70,15 @@ static void lend_marks(struct bench *bench)
 /* ---- a round of each entry. A region stands in a call as its image and its status. */
 
 #define LENT(region) \
-	(region)->n, (region)->image, region_image_len(region), (region)->status, region_status_len(region)
+	(region)->n, (region)->size, (region)->image, region_image_len(region), (region)->status, \
+	region_status_len(region)
 
 static unsigned round_first_bitmap(struct bench *bench, const struct implementation *by)
 {
 	unsigned refusals = 0;
 
 	for (unsigned i = 0; i < REGIONS; i++)
-		refusals |= ream_refusal(by->first_bitmap(bench->n, bench->marks[i], (size_t)bench->n,
+		refusals |= ream_refusal(by->first_bitmap(bench->n, bench->size, bench->marks[i], (size_t)bench->n,
 							  bench->bitmap, bench->bitmap_len));
 	return refusals;
 }
@@ -148,15 +171,37 @@ static const struct trial large_trials[] = {
 
 enum { TRIALS = sizeof(large_trials) / sizeof(large_trials[0]) };
 
+/* Those that are timed by the size of the region. */
+static const struct trial size_trials[] = {
+	{ "ream_table_read", "settled pairs, others blank", lend_settled, round_table_read },
+	{ "ream_table_read", "settled pairs, others half copies", lend_crowded, round_table_read },
+	{ "ream_update_plan", "settled pairs, others half copies", lend_crowded, round_update_plan },
+	{ "ream_recovery_plan", "primary alone, others blank", lend_alone, round_recovery_plan },
+	{ "ream_recovery_plan", "primary alone, others half copies", lend_crowded_alone, round_recovery_plan },
+};
+
+enum { SIZE_TRIALS = sizeof(size_trials) / sizeof(size_trials[0]) };
+
 /* ---- preparing */
+
+/* A copy with its last page unreadable in every block: as much as there can be to look at where none is good. */
+static void crowd(struct region *region, uint8_t version, const uint8_t *table)
+{
+	for (unsigned block = 0; block < region->size; block++) {
+		region_copy(region, block, MIRROR, version, table);
+		*region_status(region, block, region->pages - 1) = 1;
+	}
+}
 
 /* The region of one state, with the table in it, and in an older copy the table before. */
 static void prepare_region(struct region *region, enum state state, const unsigned *block, uint8_t version,
 			   const uint8_t *table, const uint8_t *before)
 {
-	region_begin(region, region->n);
+	region_begin(region, region->n, region->size);
+	if (state == CROWDED || state == CROWDED_ALONE)
+		crowd(region, version, table);
 	region_copy(region, block[PRIMARY], PRIMARY, version, table);
-	if (state == SETTLED)
+	if (state == SETTLED || state == CROWDED)
 		region_copy(region, block[MIRROR], MIRROR, version, table);
 	else if (state == BEHIND)
 		region_copy(region, block[MIRROR], MIRROR, (uint8_t)(version - 1), before);
@@ -164,15 +209,16 @@ static void prepare_region(struct region *region, enum state state, const unsign
 		region_copy(region, block[MIRROR], MIRROR, version, before);
 }
 
-/* Draws regions of a chip with n blocks, each copy in a block of its own, with some blocks that are not good;
- * and for each a good block that is to be marked late, and the factory's marks of a chip. */
-static void prepare_regions(struct bench *bench, uint64_t n, uint64_t state)
+/* Draws regions of `size` blocks on a chip with n blocks, each copy in a block of its own, with some blocks of the
+ * chip that are not good; and for each a good block that is to be marked late, and the factory's marks of a chip. */
+static void prepare_regions(struct bench *bench, uint64_t n, unsigned size, uint64_t state)
 {
 	bench->n = n;
+	bench->size = size;
 	bench->bitmap_len = ream_bitmap_size(n);
 	for (unsigned i = 0; i < REGIONS; i++) {
-		const unsigned primary = (unsigned)draw_below(&state, REGION_BLOCKS);
-		const unsigned mirror = (primary + 1 + (unsigned)draw_below(&state, 3)) % REGION_BLOCKS;
+		const unsigned primary = (unsigned)draw_below(&state, size);
+		const unsigned mirror = (primary + 1 + (unsigned)draw_below(&state, size - 1)) % size;
 		const unsigned block[KINDS] = { primary, mirror };
 		const uint8_t version = (uint8_t)draw(&state);
 		const uint64_t changed = draw_below(&state, n);
@@ -190,6 +236,7 @@ static void prepare_regions(struct bench *bench, uint64_t n, uint64_t state)
 		ream_entry_set(bench->wanted[i], changed, REAM_ENTRY_LATE);
 		for (unsigned k = 0; k < STATES; k++) {
 			bench->prepared[k][i].n = n;
+			bench->prepared[k][i].size = size;
 			prepare_region(&bench->prepared[k][i], (enum state)k, block, version, bench->same[i],
 				       bench->wanted[i]);
 		}
@@ -198,10 +245,52 @@ static void prepare_regions(struct bench *bench, uint64_t n, uint64_t state)
 
 void bench_large(struct bench *bench, uint64_t n)
 {
-	prepare_regions(bench, n, SEED);
-	printf("\nlarge chip, N = %" PRIu64 ": image %zu bytes, status %zu, bitmap %zu\n", n, ream_image_size(n),
-	       ream_status_size(n), ream_bitmap_size(n));
+	const unsigned size = FEWEST_REGION_BLOCKS;
+
+	prepare_regions(bench, n, size, SEED);
+	printf("\nlarge chip, N = %" PRIu64 ", region of %u blocks: image %zu bytes, status %zu, bitmap %zu\n", n,
+	       size, ream_image_size(n, size), ream_status_size(n, size), ream_bitmap_size(n));
 	print_heads();
 	for (unsigned i = 0; i < TRIALS; i++)
 		run(bench, &large_trials[i], REGIONS, n < SHORT_CALL ? FEWEST_CALLS / REGIONS : 1);
+}
+
+/* The times of a trial, by the size of the region. */
+struct by_size {
+	double time[REGION_SIZES][ROUNDS];
+};
+
+/* Prints a trial's row: its time for each size, and how much a block more adds. */
+static void print_size_row(const struct trial *trial, struct by_size *by_size)
+{
+	double time[REGION_SIZES];
+
+	printf("  %-20s", trial->entry);
+	for (unsigned i = 0; i < REGION_SIZES; i++) {
+		time[i] = median(by_size->time[i]);
+		printf("%10.1f", time[i]);
+	}
+	printf("%10.1f   %s\n", (time[REGION_SIZES - 1] - time[0]) / (REGION_SIZES - 1), trial->inputs);
+}
+
+/* The sizes take turns in every round, so that they stand beside each other. */
+void bench_sizes(struct bench *bench, uint64_t n)
+{
+	struct by_size by_size[SIZE_TRIALS];
+
+	for (unsigned round = 0; round < ROUNDS; round++) {
+		for (unsigned i = 0; i < REGION_SIZES; i++) {
+			prepare_regions(bench, n, FEWEST_REGION_BLOCKS + i, SEED);
+			for (unsigned k = 0; k < SIZE_TRIALS; k++)
+				by_size[k].time[i][round] = time_library(bench, &size_trials[k], REGIONS, SIZE_TIMES);
+		}
+	}
+	printf("\nlarge chip, N = %" PRIu64 ", by the size of the region: library ns, and what a block more adds\n",
+	       n);
+	printf("  %-20s", "entry");
+	for (unsigned i = 0; i < REGION_SIZES; i++)
+		printf("%3u blocks", FEWEST_REGION_BLOCKS + i);
+	printf("%10s   %s\n", "a block", "inputs");
+	for (unsigned k = 0; k < SIZE_TRIALS; k++)
+		print_size_row(&size_trials[k], &by_size[k]);
 }

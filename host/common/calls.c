@@ -33,12 +33,12 @@ CALLS(half_code, LENT(0), LENT(1))
 CALLS(spare_write, LENT(0), number[0], number[1], number[2], LENT(1))
 CALLS(spare_read, LENT(0), LENT(1))
 CALLS(page_read, LENT(0), LENT(1), LENT(2))
-CALLS(first_bitmap, number[0], LENT(0), LENT(1))
-CALLS(table_read, number[0], LENT(0), LENT(1), LENT(2))
-CALLS(update_plan, number[0], LENT(0), LENT(1), LENT(2), LENT(3))
-CALLS(recovery_plan, number[0], LENT(0), LENT(1), LENT(2))
-CALLS(update_page, number[0], LENT(0), LENT(1), LENT(2), number[1], LENT(3))
-CALLS(recovery_page, number[0], LENT(0), LENT(1), number[1], LENT(2))
+CALLS(first_bitmap, number[0], number[1], LENT(0), LENT(1))
+CALLS(table_read, number[0], number[1], LENT(0), LENT(1), LENT(2))
+CALLS(update_plan, number[0], number[1], LENT(0), LENT(1), LENT(2), LENT(3))
+CALLS(recovery_plan, number[0], number[1], LENT(0), LENT(1), LENT(2))
+CALLS(update_page, number[0], number[1], LENT(0), LENT(1), LENT(2), number[2], LENT(3))
+CALLS(recovery_page, number[0], number[1], LENT(0), LENT(1), number[2], LENT(2))
 
 #undef LENT
 #undef CALLS
@@ -72,32 +72,32 @@ const struct entry entries[ENTRIES] = {
 		library_page_read, reference_page_read,
 	},
 	[FIRST_BITMAP] = {
-		"ream_first_bitmap", 1, { "n" },
+		"ream_first_bitmap", 2, { "n", "size" },
 		2, { { "marks", 1, BLOCK_OF_CHIP, IN }, { "bitmap", 1, BYTE_OF_BITMAP, OUT } },
 		library_first_bitmap, reference_first_bitmap,
 	},
 	[TABLE_READ] = {
-		"ream_table_read", 1, { "n" },
+		"ream_table_read", 2, { "n", "size" },
 		3, { IMAGE, STATUS, { "bitmap", 1, BYTE_OF_BITMAP, OUT } },
 		library_table_read, reference_table_read,
 	},
 	[UPDATE_PLAN] = {
-		"ream_update_plan", 1, { "n" },
+		"ream_update_plan", 2, { "n", "size" },
 		4, { IMAGE, STATUS, WANTED, STEPS },
 		library_update_plan, reference_update_plan,
 	},
 	[RECOVERY_PLAN] = {
-		"ream_recovery_plan", 1, { "n" },
+		"ream_recovery_plan", 2, { "n", "size" },
 		3, { IMAGE, STATUS, STEPS },
 		library_recovery_plan, reference_recovery_plan,
 	},
 	[UPDATE_PAGE] = {
-		"ream_update_page", 2, { "n", "step" },
+		"ream_update_page", 3, { "n", "size", "step" },
 		4, { IMAGE, STATUS, WANTED, PAGE },
 		library_update_page, reference_update_page,
 	},
 	[RECOVERY_PAGE] = {
-		"ream_recovery_page", 2, { "n", "step" },
+		"ream_recovery_page", 3, { "n", "size", "step" },
 		3, { IMAGE, STATUS, PAGE },
 		library_recovery_page, reference_recovery_page,
 	},
@@ -234,8 +234,8 @@ int test_end(const struct test *test)
 
 /* ---- calls */
 
-/* How many of a unit there are on a chip of n blocks. */
-static uint64_t units(enum unit unit, uint64_t n)
+/* How many of a unit there are on a chip of n blocks with a region of `size` blocks. */
+static uint64_t units(enum unit unit, uint64_t n, uint64_t size)
 {
 	switch (unit) {
 	case BLOCK_OF_CHIP:
@@ -243,22 +243,23 @@ static uint64_t units(enum unit unit, uint64_t n)
 	case BYTE_OF_BITMAP:
 		return n / 4;
 	case PAGE_OF_REGION:
-		return 4 * (n / 4 / 2048 + (n / 4 % 2048 != 0));
+		return size * (n / 4 / 2048 + (n / 4 % 2048 != 0));
 	case BYTE:
 		break;
 	}
 	return 1;
 }
 
-void call_begin_large(struct test *test, enum entry_index index, uint64_t n)
+void call_begin_large(struct test *test, enum entry_index index, uint64_t n, uint64_t size)
 {
 	const struct entry *entry = &entries[index];
 	struct call *call = &test->call;
 
 	call->index = index;
 	call->number[0] = n;
+	call->number[1] = size;
 	for (unsigned i = 0; i < entry->buffers; i++) {
-		call->len[i] = entry->buffer[i].len * (size_t)units(entry->buffer[i].unit, n);
+		call->len[i] = entry->buffer[i].len * (size_t)units(entry->buffer[i].unit, n, size);
 		if (entry->buffer[i].direction == OUT)
 			draw_bytes(&test->state, call->bytes[i], lent_held(call->len[i]));
 	}
@@ -266,7 +267,7 @@ void call_begin_large(struct test *test, enum entry_index index, uint64_t n)
 
 void call_begin(struct test *test, enum entry_index index)
 {
-	call_begin_large(test, index, 0);
+	call_begin_large(test, index, 0, 0);
 }
 
 void call_lend(struct test *test, unsigned i, const uint8_t *bytes, size_t len)

@@ -3,7 +3,7 @@
  * answer, each lent byte, and the guard bytes around each buffer. Two rules are checked of the library
  * besides: an input is never changed, and a refused call changes nothing.
  *
- * A call is made in three steps: call_begin(), or call_begin_large() for an entry that takes N, names the
+ * A call is made in three steps: call_begin(), or call_begin_large() for an entry of the large chip, names the
  * entry, sets every length to the one that document 01 names and fills the outputs with bytes drawn anew;
  * call_lend(), or a store to the call's numbers, lengths and bytes, sets the rest; call_compare() makes the
  * call both ways.
@@ -58,7 +58,8 @@ struct entry {
 
 extern const struct entry entries[ENTRIES];
 
-/* Has an entry a number, or a buffer, of this name? The large chip's entries have "n", as their first number. */
+/* Has an entry a number, or a buffer, of this name? The large chip's entries have "n" and "size", the region's,
+ * as their first two numbers. */
 bool has_number(enum entry_index index, const char *name);
 bool has_buffer(enum entry_index index, const char *name);
 
@@ -86,8 +87,9 @@ struct test {
 
 void call_begin(struct test *test, enum entry_index index);
 
-/* The same for an entry that takes N, with the lengths that go with n, which may be any number. */
-void call_begin_large(struct test *test, enum entry_index index, uint64_t n);
+/* The same for an entry of the large chip, with the lengths that go with n and the region's size, which may be any
+ * numbers. */
+void call_begin_large(struct test *test, enum entry_index index, uint64_t n, uint64_t size);
 
 /* Sets the first bytes of buffer i. */
 void call_lend(struct test *test, unsigned i, const uint8_t *bytes, size_t len);

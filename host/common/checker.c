@@ -16,13 +16,14 @@ static void require(struct checker *checker, bool holds, const char *rule)
 /* Is the pair settled? Then gives its table and the region's block of its primary, by the reference. */
 static bool settled(const struct region *region, struct table *table, unsigned *primary)
 {
-	const uint64_t answer = ref_table_read(region->n, region->image, region_image_len(region), region->status,
-					       region_status_len(region), table->bitmap, (size_t)region->n / 4);
+	const uint64_t answer = ref_table_read(region->n, region->size, region->image, region_image_len(region),
+					       region->status, region_status_len(region), table->bitmap,
+					       (size_t)region->n / 4);
 
 	if (answer % 256 != 0)
 		return false;
 	table->version = (uint8_t)(answer >> 8);
-	*primary = (unsigned)((answer >> 16) % 65536 - (region->n - REGION_BLOCKS));
+	*primary = (unsigned)((answer >> 16) % 65536 - region_first(region));
 	return true;
 }
 
@@ -138,7 +139,7 @@ void checker_recovery(struct checker *checker, const struct region *region, bool
 
 void checker_told(struct checker *checker, const struct region *region, uint64_t block, unsigned page)
 {
-	require(checker, block >= region->n - REGION_BLOCKS && block < region->n,
+	require(checker, block >= region_first(region) && block < region->n,
 		"no step touches a block outside the region");
 	require(checker, page < region->pages, "no step touches a page of P or more");
 }

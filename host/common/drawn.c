@@ -6,6 +6,13 @@
 #include "draw.h"
 #include "reamsickle.h"
 
+unsigned drawn_size(uint64_t *state, uint64_t n)
+{
+	const unsigned sizes = region_largest(n) - FEWEST_REGION_BLOCKS + 1;
+
+	return FEWEST_REGION_BLOCKS + (unsigned)draw_below(state, sizes);
+}
+
 void drawn_table(uint64_t *state, uint8_t *table, uint64_t n)
 {
 	if (draw_below(state, 4) == 0) {
@@ -70,7 +77,7 @@ static void stir_page(uint64_t *state, struct region *region, unsigned block, un
 
 void drawn_stir(uint64_t *state, struct region *region)
 {
-	for (unsigned block = 0; block < REGION_BLOCKS; block++)
+	for (unsigned block = 0; block < region->size; block++)
 		for (unsigned page = 0; page < region->pages; page++)
 			stir_page(state, region, block, page);
 }

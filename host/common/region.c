@@ -8,14 +8,24 @@ static const uint8_t signatures[KINDS][4] = {
 	[MIRROR] = { 0x31, 0x74, 0x62, 0x42 },
 };
 
+unsigned region_largest(uint64_t n)
+{
+	return n / 2 < MOST_REGION_BLOCKS ? (unsigned)(n / 2) : MOST_REGION_BLOCKS;
+}
+
+uint64_t region_first(const struct region *region)
+{
+	return region->n - region->size;
+}
+
 size_t region_image_len(const struct region *region)
 {
-	return (size_t)REGION_BLOCKS * region->pages * PAGE_BYTES;
+	return (size_t)region->size * region->pages * PAGE_BYTES;
 }
 
 size_t region_status_len(const struct region *region)
 {
-	return (size_t)REGION_BLOCKS * region->pages;
+	return (size_t)region->size * region->pages;
 }
 
 size_t region_part_len(const struct region *region, unsigned page)
@@ -50,13 +60,14 @@ uint8_t *region_status(struct region *region, unsigned block, unsigned page)
 	return region->status + block * region->pages + page;
 }
 
-void region_begin(struct region *region, uint64_t n)
+void region_begin(struct region *region, uint64_t n, unsigned size)
 {
 	region->n = n;
+	region->size = size;
 	region->pages = 1;
 	while (region->pages * (uint64_t)PAGE_DATA < n / 4)
 		region->pages++;
-	for (unsigned block = 0; block < REGION_BLOCKS; block++)
+	for (unsigned block = 0; block < region->size; block++)
 		region_erase(region, block);
 }
 

@@ -1,6 +1,6 @@
 /*
  * A region of the large chip in memory, laid out as document 01 has it, for the host programs to lend.
- * Blocks are counted from 0 for the region's lowest to 3, pages from 0 to P - 1.
+ * Blocks are counted from 0 for the region's lowest to size - 1, pages from 0 to P - 1.
  */
 #ifndef REGION_H
 #define REGION_H
@@ -10,7 +10,8 @@
 #include <stdint.h>
 
 enum {
-	REGION_BLOCKS = 4,
+	FEWEST_REGION_BLOCKS = 4,	/* the smallest size of the region, which every chip can have */
+	MOST_REGION_BLOCKS = 7,		/* the largest */
 	PAGE_DATA = 2048,
 	PAGE_OOB = 64,
 	PAGE_BYTES = PAGE_DATA + PAGE_OOB,
@@ -26,10 +27,17 @@ enum kind { PRIMARY, MIRROR, KINDS };
 
 struct region {
 	uint64_t n;		/* the chip's blocks, N */
+	unsigned size;		/* blocks of the region */
 	unsigned pages;		/* P */
-	uint8_t image[REGION_BLOCKS * MOST_PAGES * PAGE_BYTES];
-	uint8_t status[REGION_BLOCKS * MOST_PAGES];
+	uint8_t image[MOST_REGION_BLOCKS * MOST_PAGES * PAGE_BYTES];
+	uint8_t status[MOST_REGION_BLOCKS * MOST_PAGES];
 };
+
+/* The largest size of the region on a chip of n blocks: at most half of them are its own. */
+unsigned region_largest(uint64_t n);
+
+/* The chip block of its lowest block. */
+uint64_t region_first(const struct region *region);
 
 /* How many bytes of image and status are lent. */
 size_t region_image_len(const struct region *region);
@@ -48,8 +56,8 @@ uint8_t *region_data(struct region *region, unsigned block, unsigned page);
 uint8_t *region_oob(struct region *region, unsigned block, unsigned page);
 uint8_t *region_status(struct region *region, unsigned block, unsigned page);
 
-/* A region of a chip with n blocks, every page blank. */
-void region_begin(struct region *region, uint64_t n);
+/* A region of `size` blocks on a chip with n blocks, every page blank. */
+void region_begin(struct region *region, uint64_t n, unsigned size);
 
 /* Makes all pages of a block blank. */
 void region_erase(struct region *region, unsigned block);

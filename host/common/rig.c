@@ -6,9 +6,15 @@
 #include "draw.h"
 #include "drawn.h"
 
-/* Numbers of blocks for each P: the ends of its range, and one between. */
-static const uint64_t sizes[MOST_PAGES][3] = {
-	{ 8, 12, 8192 }, { 8196, 12000, 16384 }, { 16388, 20000, 24576 }, { 24580, 32764, 32768 },
+enum { CHIPS = 4 };
+
+/* Numbers of blocks for each P: the ends of its range, and two between. The smallest that allows each size of the
+ * region is among them. */
+static const uint64_t chips[MOST_PAGES][CHIPS] = {
+	{ 8, 12, 16, 8192 },
+	{ 8196, 12000, 16380, 16384 },
+	{ 16388, 20000, 24572, 24576 },
+	{ 24580, 30000, 32764, 32768 },
 };
 
 /* Bytes that may be anything: all FF, all 00, or drawn. */
@@ -119,24 +125,28 @@ static void fill_block(uint64_t *state, struct region *region, unsigned block, c
 
 void rig_start(uint64_t *state, struct start *start, struct region *region)
 {
-	rig_start_on(state, sizes[draw_below(state, MOST_PAGES)][draw_below(state, 3)], start, region);
+	const uint64_t *of_pages = chips[draw_below(state, MOST_PAGES)];
+	const uint64_t n = of_pages[draw_below(state, CHIPS)];
+
+	rig_start_on(state, n, drawn_size(state, n), start, region);
 }
 
-void rig_start_on(uint64_t *state, uint64_t n, struct start *start, struct region *region)
+void rig_start_on(uint64_t *state, uint64_t n, unsigned size, struct start *start, struct region *region)
 {
 	uint8_t table[MOST_BITMAP];
 
 	start->n = n;
+	start->size = size;
 	start->version = draw_version(state);
-	start->block[PRIMARY] = (unsigned)draw_below(state, REGION_BLOCKS);
-	start->block[MIRROR] = (start->block[PRIMARY] + 1 + (unsigned)draw_below(state, 3)) % REGION_BLOCKS;
-	for (unsigned block = 0; block < REGION_BLOCKS; block++)
+	start->block[PRIMARY] = (unsigned)draw_below(state, size);
+	start->block[MIRROR] = (start->block[PRIMARY] + 1 + (unsigned)draw_below(state, size - 1)) % size;
+	for (unsigned block = 0; block < size; block++)
 		start->filling[block] = (enum filling)(1 + draw_below(state, FILLINGS - 1));
 	start->filling[start->block[PRIMARY]] = start->filling[start->block[MIRROR]] = FILLED_PAIR;
 
-	drawn_table(state, table, start->n);
-	region_begin(region, start->n);
-	for (unsigned block = 0; block < REGION_BLOCKS; block++)
+	drawn_table(state, table, n);
+	region_begin(region, n, size);
+	for (unsigned block = 0; block < size; block++)
 		fill_block(state, region, block, start, table);
 	if (draw_below(state, 2) == 0)
 		drawn_stir(state, region);

@@ -24,9 +24,10 @@ enum filling {
 
 struct start {
 	uint64_t n;
+	unsigned size;
 	uint8_t version;
 	unsigned block[KINDS];	/* of the region, where primary and mirror are */
-	enum filling filling[REGION_BLOCKS];
+	enum filling filling[MOST_REGION_BLOCKS];
 };
 
 /* What is left of a page when power is cut. */
@@ -36,8 +37,8 @@ enum left { LEFT_AS_IT_WAS, LEFT_BLANK, LEFT_COMPLETE, LEFT_UNREADABLE };
  * settled: then draw again. */
 void rig_start(uint64_t *state, struct start *start, struct region *region);
 
-/* The same on a chip of n blocks. */
-void rig_start_on(uint64_t *state, uint64_t n, struct start *start, struct region *region);
+/* The same with a region of `size` blocks on a chip of n blocks. */
+void rig_start_on(uint64_t *state, uint64_t n, unsigned size, struct start *start, struct region *region);
 
 /* Writes a page: it is complete, with anything in OOB 0-13. */
 void rig_write(uint64_t *state, struct region *region, unsigned block, unsigned page, const uint8_t *image);

@@ -69,8 +69,15 @@ static int small_chip(void)
 	return ream_refusal(answer) == REAM_UNREPAIRABLE ? EXIT_SUCCESS : EXIT_FAILURE;
 }
 
-/* A chip of 1,024 blocks: a copy of its table fills one page. */
-enum { BLOCKS = 1024, BITMAP_SIZE = BLOCKS / 4, PAGES = 1, REGION_PAGES = REAM_REGION_BLOCKS * PAGES };
+/* A chip of 1,024 blocks: a copy of its table fills one page. The last four blocks are the region, as on the chips
+ * in service. */
+enum {
+	BLOCKS = 1024,
+	REGION = REAM_REGION_BLOCKS_MIN,
+	BITMAP_SIZE = BLOCKS / 4,
+	PAGES = 1,
+	REGION_PAGES = REGION * PAGES,
+};
 
 /* The region as it is lent. Here the chip itself is such a region, in memory. */
 struct region {
@@ -95,11 +102,11 @@ static uint64_t plan_make(struct plan *plan, const struct region *chip, const ui
 	plan->snapshot = *chip;
 	plan->wanted = wanted;
 	if (wanted)
-		answer = ream_update_plan(BLOCKS, from->image, sizeof(from->image), from->status,
+		answer = ream_update_plan(BLOCKS, REGION, from->image, sizeof(from->image), from->status,
 					  sizeof(from->status), wanted, BITMAP_SIZE, plan->steps,
 					  sizeof(plan->steps));
 	else
-		answer = ream_recovery_plan(BLOCKS, from->image, sizeof(from->image), from->status,
+		answer = ream_recovery_plan(BLOCKS, REGION, from->image, sizeof(from->image), from->status,
 					    sizeof(from->status), plan->steps, sizeof(plan->steps));
 	plan->count = ream_refusal(answer) == REAM_OK ? ream_step_count(answer) : 0;
 	return answer;
@@ -111,17 +118,18 @@ static uint64_t plan_page(const struct plan *plan, unsigned i, uint8_t page[REAM
 	const struct region *from = &plan->snapshot;
 
 	if (plan->wanted)
-		return ream_update_page(BLOCKS, from->image, sizeof(from->image), from->status, sizeof(from->status),
-					plan->wanted, BITMAP_SIZE, i, page, REAM_LARGE_PAGE_SIZE);
-	return ream_recovery_page(BLOCKS, from->image, sizeof(from->image), from->status, sizeof(from->status), i,
-				  page, REAM_LARGE_PAGE_SIZE);
+		return ream_update_page(BLOCKS, REGION, from->image, sizeof(from->image), from->status,
+					sizeof(from->status), plan->wanted, BITMAP_SIZE, i, page,
+					REAM_LARGE_PAGE_SIZE);
+	return ream_recovery_page(BLOCKS, REGION, from->image, sizeof(from->image), from->status,
+				  sizeof(from->status), i, page, REAM_LARGE_PAGE_SIZE);
 }
 
 /* Carries out step i of a plan on the chip. */
 static uint64_t plan_step(const struct plan *plan, unsigned i, struct region *chip)
 {
 	const struct ream_step step = ream_step_get(plan->steps + REAM_STEP_SIZE * i);
-	const unsigned place = (step.block - (BLOCKS - REAM_REGION_BLOCKS)) * PAGES + step.page;
+	const unsigned place = (step.block - (BLOCKS - REGION)) * PAGES + step.page;
 	uint8_t page[REAM_LARGE_PAGE_SIZE];
 	uint64_t answer;
 
@@ -155,7 +163,7 @@ static int carry_out(struct region *chip, const uint8_t *wanted, unsigned power)
 /* Reads the table, and says which version it has, where it is and what it tells of a block. */
 static unsigned read_table(const struct region *chip, uint8_t bitmap[BITMAP_SIZE], unsigned block)
 {
-	const uint64_t answer = ream_table_read(BLOCKS, chip->image, sizeof(chip->image), chip->status,
+	const uint64_t answer = ream_table_read(BLOCKS, REGION, chip->image, sizeof(chip->image), chip->status,
 						sizeof(chip->status), bitmap, BITMAP_SIZE);
 
 	if (ream_refusal(answer) == REAM_OK)

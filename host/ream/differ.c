@@ -23,7 +23,7 @@ static bool take_copy(const struct region *region, enum kind kind, uint8_t *bitm
 {
 	unsigned copies = 0;
 
-	for (unsigned block = 0; block < REGION_BLOCKS; block++) {
+	for (unsigned block = 0; block < region->size; block++) {
 		if (!region_good(region, block, kind))
 			continue;
 		copies++;

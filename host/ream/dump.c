@@ -10,107 +10,148 @@
 
 /* ---- options */
 
-void dump_blocks_option(struct syntax *syntax, uint64_t *blocks)
+void dump_chip_options(struct syntax *syntax, struct chip *chip)
 {
-	args_add(syntax, (struct argument){ .name = "blocks", .number = blocks, .least = REAM_BLOCKS_MIN,
-					    .most = REAM_BLOCKS_MAX, .multiple = REGION_BLOCKS,
+	args_add(syntax, (struct argument){ .name = "blocks", .number = &chip->blocks, .least = REAM_BLOCKS_MIN,
+					    .most = REAM_BLOCKS_MAX, .multiple = 4, .refusal = REFUSED_RANGE });
+	args_add(syntax, (struct argument){ .name = "region-blocks", .number = &chip->region_blocks,
+					    .least = REAM_REGION_BLOCKS_MIN, .most = REAM_REGION_BLOCKS_MAX,
 					    .refusal = REFUSED_RANGE });
-}
-
-void dump_pages_option(struct syntax *syntax, uint64_t *pages_per_block)
-{
-	args_add(syntax, (struct argument){ .name = "pages-per-block", .number = pages_per_block, .least = 1,
-					    .most = MOST_PAGES_PER_BLOCK });
+	args_add(syntax, (struct argument){ .name = "pages-per-block", .number = &chip->pages_per_block,
+					    .least = 1, .most = MOST_PAGES_PER_BLOCK });
 }
 
 void dump_options(struct syntax *syntax, struct shape *shape)
 {
 	memset(shape, 0, sizeof(*shape));
-	dump_blocks_option(syntax, &shape->blocks);
-	dump_pages_option(syntax, &shape->pages_per_block);
+	dump_chip_options(syntax, &shape->chip);
 	args_add(syntax, (struct argument){ .name = "status", .text = &shape->status });
 	args_add(syntax, (struct argument){ .name = "unreadable", .texts = &shape->unreadable });
 }
 
-bool dump_fits(uint64_t n, uint64_t pages_per_block)
+bool dump_fits(const struct chip *chip)
 {
-	const unsigned pages = ream_table_pages(n);
+	const unsigned pages = ream_table_pages(chip->blocks);
 
-	if (pages_per_block < pages)
+	if (!ream_region_fits(chip->blocks, chip->region_blocks)) {
+		complain("--region-blocks %" PRIu64 ": expected at most %u, half of the chip's %" PRIu64
+			 " blocks (" REFUSED_RANGE ")",
+			 chip->region_blocks, region_largest(chip->blocks), chip->blocks);
+		return false;
+	}
+	if (chip->pages_per_block < pages)
 		complain("--pages-per-block %" PRIu64 ": expected at least %u, the pages of a table of %" PRIu64
 			 " blocks",
-			 pages_per_block, pages, n);
-	return pages_per_block >= pages;
+			 chip->pages_per_block, pages, chip->blocks);
+	return chip->pages_per_block >= pages;
 }
 
 /* ---- its size */
 
-/* Finds N from the size of a dump of the whole chip. */
-static bool find_blocks(const struct dump *dump, uint64_t block_size, uint64_t *n)
-{
-	const uint64_t size = dump->input.size, pages = dump->pages_per_block;
+enum { HINT_LEN = 80 };
 
-	*n = size / block_size;
-	if (size % block_size != 0) {
+static uint64_t block_size(const struct chip *chip)
+{
+	return chip->pages_per_block * PAGE_BYTES;
+}
+
+/* Says of which region so many blocks would be a dump, if it is not the chip's. */
+static void hint_at_region(const struct chip *chip, uint64_t blocks, char hint[HINT_LEN])
+{
+	hint[0] = '\0';
+	if (blocks != chip->region_blocks && blocks >= FEWEST_REGION_BLOCKS && blocks <= MOST_REGION_BLOCKS)
+		snprintf(hint, HINT_LEN, "; --region-blocks %" PRIu64 " and --blocks N would fit", blocks);
+}
+
+/* Finds N from the size of a dump of the whole chip. */
+static bool find_blocks(const struct dump *dump, struct chip *chip)
+{
+	const uint64_t size = dump->input.size, pages = chip->pages_per_block, blocks = size / block_size(chip);
+	char hint[HINT_LEN];
+
+	if (size % block_size(chip) != 0) {
 		complain("%s: ends at offset %" PRIu64 ", inside block %" PRIu64
 			 "; expected whole blocks of %" PRIu64 " bytes, %" PRIu64
 			 " page%s of %d (" REFUSED_LENGTH ")",
-			 dump->input.id.name, size, *n, block_size, pages, plural(pages), PAGE_BYTES);
+			 dump->input.id.name, size, blocks, block_size(chip), pages, plural(pages), PAGE_BYTES);
 		return false;
 	}
-	if (ream_table_pages(*n) != 0)
+	chip->blocks = blocks;
+	if (ream_table_pages(blocks) != 0)
 		return true;
+	hint_at_region(chip, blocks, hint);
 	complain("%s: has %" PRIu64 " block%s of %" PRIu64
 		 " page%s; expected a whole chip, a multiple of 4 blocks "
-		 "from %d to %d, or the last four blocks and --blocks N (" REFUSED_RANGE ")",
-		 dump->input.id.name, *n, plural(*n), pages, plural(pages), REAM_BLOCKS_MIN, REAM_BLOCKS_MAX);
+		 "from %d to %d, or the last %s blocks and --blocks N%s (" REFUSED_RANGE ")",
+		 dump->input.id.name, blocks, plural(blocks), pages, plural(pages), REAM_BLOCKS_MIN,
+		 REAM_BLOCKS_MAX, size_word(chip->region_blocks), hint);
 	return false;
 }
 
-/* The pages of a block with which the size is that of all n blocks or of four; 0 where there are none. */
-static uint64_t fitting_pages(uint64_t size, uint64_t n)
+/* The pages of a block with which the size is that of the whole chip or of its region; 0 where there are none. */
+static uint64_t fitting_pages(uint64_t size, const struct chip *chip)
 {
 	if (size == 0 || size % PAGE_BYTES != 0)
 		return 0;
 	size /= PAGE_BYTES;
-	if (size % n == 0 && size / n <= MOST_PAGES_PER_BLOCK)
-		return size / n;
-	if (size % REGION_BLOCKS == 0 && size / REGION_BLOCKS <= MOST_PAGES_PER_BLOCK)
-		return size / REGION_BLOCKS;
+	if (size % chip->blocks == 0 && size / chip->blocks <= MOST_PAGES_PER_BLOCK)
+		return size / chip->blocks;
+	if (size % chip->region_blocks == 0 && size / chip->region_blocks <= MOST_PAGES_PER_BLOCK)
+		return size / chip->region_blocks;
 	return 0;
 }
 
-static void complain_of_size(const struct dump *dump, uint64_t n, uint64_t block_size)
+/* Says with which number the size would be right. */
+static void hint_at_size(const struct chip *chip, uint64_t size, char hint[HINT_LEN])
 {
-	const uint64_t size = dump->input.size, pages = dump->pages_per_block, fitting = fitting_pages(size, n);
-	char hint[64] = "";
+	const uint64_t blocks = size / block_size(chip), fitting = fitting_pages(size, chip);
 
-	if (fitting >= ream_table_pages(n))
-		snprintf(hint, sizeof(hint), "; --pages-per-block %" PRIu64 " would fit", fitting);
-	complain("%s: ends at offset %" PRIu64 "; expected %" PRIu64 " bytes, all %" PRIu64 " blocks of %" PRIu64
-		 " page%s, or %" PRIu64 " bytes, the last four%s (" REFUSED_LENGTH ")",
-		 dump->input.id.name, size, n * block_size, n, pages, plural(pages), REGION_BLOCKS * block_size,
-		 hint);
+	hint[0] = '\0';
+	if (size % block_size(chip) == 0 && ream_region_fits(chip->blocks, blocks))
+		snprintf(hint, HINT_LEN, "; it has %" PRIu64 " blocks, --region-blocks %" PRIu64 " would fit",
+			 blocks, blocks);
+	else if (fitting >= ream_table_pages(chip->blocks))
+		snprintf(hint, HINT_LEN, "; --pages-per-block %" PRIu64 " would fit", fitting);
 }
 
-/* Finds N, and whether the dump has the whole chip. */
-static bool measure(struct dump *dump, const struct shape *shape, uint64_t *n)
+static void complain_of_size(const struct dump *dump, const struct chip *chip)
 {
-	uint64_t block_size;
+	const uint64_t n = chip->blocks, pages = chip->pages_per_block;
+	char hint[HINT_LEN];
 
-	dump->blocks_told = shape->blocks != NOT_TOLD;
-	dump->pages_told = shape->pages_per_block != NOT_TOLD;
-	dump->pages_per_block = dump->pages_told ? shape->pages_per_block : PAGES_PER_BLOCK;
-	block_size = dump->pages_per_block * PAGE_BYTES;
-	*n = shape->blocks;
-	if (!dump->blocks_told && !find_blocks(dump, block_size, n))
+	hint_at_size(chip, dump->input.size, hint);
+	complain("%s: ends at offset %" PRIu64 "; expected %" PRIu64 " bytes, all %" PRIu64 " blocks of %" PRIu64
+		 " page%s, or %" PRIu64 " bytes, the last %s%s (" REFUSED_LENGTH ")",
+		 dump->input.id.name, dump->input.size, n * block_size(chip), n, pages, plural(pages),
+		 chip->region_blocks * block_size(chip), size_word(chip->region_blocks), hint);
+}
+
+/* Takes the numbers that are told, and assumes those that are not, but for N. */
+static void take_told(struct dump *dump, const struct shape *shape, struct chip *chip)
+{
+	*chip = shape->chip;
+	dump->blocks_told = chip->blocks != NOT_TOLD;
+	dump->region_told = chip->region_blocks != NOT_TOLD;
+	dump->pages_told = chip->pages_per_block != NOT_TOLD;
+	if (!dump->region_told)
+		chip->region_blocks = FEWEST_REGION_BLOCKS;
+	if (!dump->pages_told)
+		chip->pages_per_block = PAGES_PER_BLOCK;
+	dump->pages_per_block = chip->pages_per_block;
+}
+
+/* Finds the chip's numbers, and whether the dump has the whole chip. */
+static bool measure(struct dump *dump, const struct shape *shape, struct chip *chip)
+{
+	take_told(dump, shape, chip);
+	if (!dump->blocks_told && !find_blocks(dump, chip))
 		return false;
-	if (!dump_fits(*n, dump->pages_per_block))
+	if (!dump_fits(chip))
 		return false;
-	dump->whole = dump->input.size == *n * block_size;
-	if (dump->whole || dump->input.size == REGION_BLOCKS * block_size)
+	dump->whole = dump->input.size == chip->blocks * block_size(chip);
+	if (dump->whole || dump->input.size == chip->region_blocks * block_size(chip))
 		return true;
-	complain_of_size(dump, *n, block_size);
+	complain_of_size(dump, chip);
 	return false;
 }
 
@@ -118,7 +159,7 @@ static bool measure(struct dump *dump, const struct shape *shape, uint64_t *n)
 
 static bool read_pages(struct dump *dump)
 {
-	for (unsigned block = 0; block < REGION_BLOCKS; block++)
+	for (unsigned block = 0; block < dump->region.size; block++)
 		for (unsigned page = 0; page < dump->region.pages; page++)
 			if (!input_read(&dump->input, dump_offset(dump, block, page),
 					region_data(&dump->region, block, page), PAGE_BYTES))
@@ -131,11 +172,11 @@ static bool read_pages(struct dump *dump)
 /* Reads what counts of a dump that is open. */
 static bool read_open(struct dump *dump, const struct shape *shape)
 {
-	uint64_t n;
+	struct chip chip;
 
-	if (!measure(dump, shape, &n))
+	if (!measure(dump, shape, &chip))
 		return false;
-	region_begin(&dump->region, n);
+	region_begin(&dump->region, chip.blocks, (unsigned)chip.region_blocks);
 	return read_pages(dump) &&
 	       (!shape->status || status_read(&dump->region, shape->status, &dump->read[dump->reads++])) &&
 	       status_take_unreadable(&dump->region, &shape->unreadable);
@@ -165,19 +206,37 @@ void dump_close(struct dump *dump)
 
 uint64_t dump_offset(const struct dump *dump, unsigned block, unsigned page)
 {
-	const uint64_t first = dump->whole ? dump->region.n - REGION_BLOCKS : 0;
+	const uint64_t first = dump->whole ? region_first(&dump->region) : 0;
 
 	return ((first + block) * dump->pages_per_block + page) * PAGE_BYTES;
 }
 
 /* ---- telling */
 
-/* Where N comes from. Four blocks alone do not show it. */
+/* Where N comes from. A region alone does not show it. */
 static const char *blocks_from(const struct dump *dump)
 {
 	if (!dump->blocks_told)
 		return "by the dump's size";
 	return dump->whole ? "told" : "told, unchecked";
+}
+
+/* Where another number comes from. */
+static const char *number_from(bool told)
+{
+	return told ? "told" : "assumed";
+}
+
+/* What the dump has. */
+static void print_what(const struct dump *dump)
+{
+	const struct region *region = &dump->region;
+
+	if (dump->whole)
+		printf("dump: the whole chip");
+	else
+		printf("dump: the last %s blocks", size_word(region->size));
+	printf("; a copy of the table fills %u page%s\n", region->pages, plural(region->pages));
 }
 
 void dump_print(const struct dump *dump)
@@ -186,10 +245,11 @@ void dump_print(const struct dump *dump)
 	const unsigned counting = (unsigned)region_status_len(region);
 
 	printf("chip: %" PRIu64 " blocks (%s), %" PRIu64 " page%s a block (%s)\n", region->n,
-	       blocks_from(dump), dump->pages_per_block,
-	       plural(dump->pages_per_block), dump->pages_told ? "told" : "assumed");
-	printf("dump: %s; a copy of the table fills %u page%s\n",
-	       dump->whole ? "the whole chip" : "the last four blocks", region->pages, plural(region->pages));
+	       blocks_from(dump), dump->pages_per_block, plural(dump->pages_per_block),
+	       number_from(dump->pages_told));
+	print_what(dump);
+	printf("region: the last %s blocks, %" PRIu64 "-%" PRIu64 " (%s)\n", size_word(region->size),
+	       region_first(region), region->n - 1, number_from(dump->region_told));
 	if (dump->status_told)
 		printf("pages: of the %u that count %u unreadable (told)\n", counting, status_count(region));
 	else
@@ -201,6 +261,8 @@ void dump_write(struct json *json, const struct dump *dump)
 	json_object(json, "chip");
 	json_number(json, "blocks", dump->region.n);
 	json_truth(json, "blocks_told", dump->blocks_told);
+	json_number(json, "region_blocks", dump->region.size);
+	json_truth(json, "region_blocks_told", dump->region_told);
 	json_number(json, "pages_per_block", dump->pages_per_block);
 	json_truth(json, "pages_per_block_told", dump->pages_told);
 	json_number(json, "table_pages", dump->region.pages);
@@ -223,7 +285,7 @@ bool dump_fill(FILE *stream, const void *from)
 	uint8_t blank[PAGE_BYTES];
 
 	memset(blank, 0xFF, sizeof(blank));
-	for (unsigned block = 0; block < REGION_BLOCKS; block++)
+	for (unsigned block = 0; block < region->size; block++)
 		for (unsigned page = 0; page < dump->pages_per_block; page++)
 			fwrite(page < region->pages ? region_page(region, block, page) : blank, 1, PAGE_BYTES,
 			       stream);

@@ -1,10 +1,11 @@
 /*
  * Dumps of the large chip, as `nanddump --oob` writes them: pages with their OOB in turn, 2,112 bytes a page, of
- * the whole chip or of its last four blocks. A dump's size tells which of the two it is.
+ * the whole chip or of its region, the last 4 to 7 blocks. A dump's size tells which of the two it is, as a chip
+ * has 8 blocks or more.
  *
- * A dump does not tell which pages could not be read. A status file does: one byte for each page that counts, so
- * 4 * P bytes, the first P pages of each of the last four blocks, lowest block first; 00 is read well, 01 is
- * unreadable. Pages can be named instead, or besides. Without either every page counts as read well.
+ * A dump does not tell which pages could not be read. A status file does: one byte for each page that counts, the
+ * first P pages of each block of the region, lowest block first; 00 is read well, 01 is unreadable. Pages can
+ * be named instead, or besides. Without either every page counts as read well.
  */
 #ifndef DUMP_H
 #define DUMP_H
@@ -24,10 +25,16 @@ enum {
 	NOT_TOLD = 0,			/* no number that can be told */
 };
 
+/* The numbers of a chip. */
+struct chip {
+	uint64_t blocks;	/* N; where it is not told it follows from the size of a whole chip's dump */
+	uint64_t region_blocks;	/* the last so many of them are the region */
+	uint64_t pages_per_block;
+};
+
 /* What the options tell of a dump. */
 struct shape {
-	uint64_t blocks;	/* N; where it is not told it follows from the size of a whole chip's dump */
-	uint64_t pages_per_block;
+	struct chip chip;
 	const char *status;	/* the path of the status file, or NULL */
 	struct texts unreadable;	/* lists of pages */
 };
@@ -36,9 +43,9 @@ enum { MOST_READS = 2 };
 
 struct dump {
 	struct input input;
-	bool blocks_told, pages_told, status_told;
+	bool blocks_told, region_told, pages_told, status_told;
 	uint64_t pages_per_block;
-	bool whole;		/* of the whole chip; otherwise of its last four blocks */
+	bool whole;		/* of the whole chip; otherwise of its region */
 	struct region region;
 	struct file_id read[MOST_READS];	/* the files that were read: the dump and its status file */
 	unsigned reads;
@@ -47,24 +54,26 @@ struct dump {
 /* The lines of a command's help on these options and on the dump. */
 #define DUMP_HELP \
 	"  --blocks N            the chip's blocks, a multiple of 4 from 8 to 32768; a\n" \
-	"                        dump of the last four blocks alone needs it\n" \
+	"                        dump of the region alone needs it\n" \
+	"  --region-blocks R     the chip's last blocks that are the region, which holds\n" \
+	"                        the tables: 4 to 7, at most half of N; 4 if not told\n" \
 	"  --pages-per-block K   pages of a block in the dump, 64 if not told\n" \
 	"  --status FILE         how the pages that count were read, a byte for each:\n" \
 	"                        00 well, 01 unreadable\n" \
 	"  --unreadable B:P,..   pages that could not be read, chip block and page\n" \
 	"  --json                answers in JSON\n" \
 	"  DUMP                  pages of 2048 + 64 bytes in turn, of the whole chip or\n" \
-	"                        of its last four blocks; - is the standard input\n"
+	"                        of its region; - is the standard input\n"
 
-/* Adds the options: --blocks, --pages-per-block, --status and --unreadable. */
+/* Adds the options: --blocks, --region-blocks, --pages-per-block, --status and --unreadable. */
 void dump_options(struct syntax *syntax, struct shape *shape);
 
-/* The first two of these options alone. */
-void dump_blocks_option(struct syntax *syntax, uint64_t *blocks);
-void dump_pages_option(struct syntax *syntax, uint64_t *pages_per_block);
+/* The first three of these options alone, which tell a chip's numbers. */
+void dump_chip_options(struct syntax *syntax, struct chip *chip);
 
-/* Has a block of so many pages room for a copy of the table of n blocks? */
-bool dump_fits(uint64_t n, uint64_t pages_per_block);
+/* Do a chip's numbers go together: is the region at most half of it, and has a block room for a copy of the
+ * table? */
+bool dump_fits(const struct chip *chip);
 
 /* Reads what counts of a dump, and leaves it open; where that fails it is closed. */
 bool dump_read(struct dump *dump, const char *path, const struct shape *shape);
@@ -78,8 +87,8 @@ uint64_t dump_offset(const struct dump *dump, unsigned block, unsigned page);
 void dump_print(const struct dump *dump);
 void dump_write(struct json *json, const struct dump *dump);
 
-/* Writes a region as a dump of the last four blocks; pages behind the first P are blank. For struct output: from
- * a struct dump, of which pages_per_block and region count. */
+/* Writes a region as a dump of it alone; pages behind the first P are blank. For struct output: from a struct
+ * dump, of which pages_per_block and region count. */
 bool dump_fill(FILE *stream, const void *dump);
 
 #endif

@@ -1,7 +1,7 @@
 /*
  * Does what stands in a dump contradict the numbers of blocks and pages that it is read with? The table's pages
  * tell by two things: behind the bitmap's end all bytes are FF, and a signature stands on none but the first P
- * pages of the last four blocks. Neither can tell of every wrong number.
+ * pages of the region's blocks. Neither can tell of every wrong number.
  */
 #ifndef GEOMETRY_H
 #define GEOMETRY_H

@@ -5,6 +5,9 @@
 
 #include "reamsickle.h"
 
+/* Linux keeps its tables in so many of the last blocks, unless its driver's descriptors say otherwise. */
+enum { NAND_BBT_SCAN_MAXBLOCKS = 4 };
+
 /* ---- pages */
 
 static bool carries_signature(const struct region *region, unsigned block, unsigned page)
@@ -52,7 +55,7 @@ static void note_header(const struct region *region, unsigned block, unsigned re
 	notes_add(notes,
 		  "block %" PRIu64 " is a copy with its header on page 0 only, as Linux writes it above 8,192 "
 		  "blocks%s. The library wants the header on all %u pages (docs/LINUX.md)",
-		  region->n - REGION_BLOCKS + block, else_by(region, block, refusal), region->pages);
+		  region_first(region) + block, else_by(region, block, refusal), region->pages);
 }
 
 /* Under Linux a block of a copy that goes bad keeps its signature and has 0 in OOB 0. */
@@ -63,12 +66,12 @@ static void note_given_up(const struct region *region, unsigned block, struct no
 	notes_add(notes,
 		  "block %" PRIu64 " carries a signature and 0 in OOB 0, as Linux leaves a table's block that "
 		  "went bad. If it did, lend its first page with the OOB all 0 (docs/LINUX.md)",
-		  region->n - REGION_BLOCKS + block);
+		  region_first(region) + block);
 }
 
 void linux_look_at_pages(const struct region *region, unsigned refusal, struct notes *notes)
 {
-	for (unsigned block = 0; block < REGION_BLOCKS; block++) {
+	for (unsigned block = 0; block < region->size; block++) {
 		note_header(region, block, refusal, notes);
 		if (refusal == REAM_SEVERAL_COPIES)
 			note_given_up(region, block, notes);
@@ -86,12 +89,12 @@ static uint64_t count(const struct settled *table, uint64_t from, uint64_t to, u
 	return number;
 }
 
-/* Linux writes a block that went bad in use as 10 and never writes 01, and leaves the entries of the last four
- * blocks good or factory. A table like that may be its own; one with 01, or with 10 at the last four, has another
- * writer. */
+/* Linux writes a block that went bad in use as 10 and never writes 01, and leaves the entries of the blocks that
+ * its tables have good or factory: the last four, whatever the region's size, and more where its driver says so.
+ * A table like that may be its own; one with 01, or with 10 at the last four, has another writer. */
 void linux_look_at_entries(const struct settled *table, uint64_t n, struct notes *notes)
 {
-	const uint64_t last = n - REGION_BLOCKS, reserved = count(table, 0, last, REAM_ENTRY_RESERVED);
+	const uint64_t last = n - NAND_BBT_SCAN_MAXBLOCKS, reserved = count(table, 0, last, REAM_ENTRY_RESERVED);
 
 	if (reserved == 0 || count(table, 0, n, REAM_ENTRY_LATE) != 0 ||
 	    count(table, last, n, REAM_ENTRY_RESERVED) != 0)

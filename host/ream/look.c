@@ -119,6 +119,14 @@ void look_brief(const struct look *look, char words[LOOK_LEN])
 	put_words(look, "", words);
 }
 
+void look_letters(const struct look *look, char words[LOOK_LEN])
+{
+	if (is_copy(look))
+		snprintf(words, LOOK_LEN, "%c%u", look_letter(look->page[0]), look->version[0]);
+	else
+		page_letters(look, words);
+}
+
 void look_write(struct json *json, const struct region *region, unsigned block)
 {
 	const struct look look = look_at(region, block);
@@ -126,7 +134,7 @@ void look_write(struct json *json, const struct region *region, unsigned block)
 
 	page_letters(&look, letters);
 	json_object(json, NULL);
-	json_number(json, "block", region->n - REGION_BLOCKS + block);
+	json_number(json, "block", region_first(region) + block);
 	json_text(json, "holds", block_word(look.block));
 	if (is_copy(&look))
 		json_number(json, "version", look.version[0]);

@@ -37,9 +37,11 @@ struct look look_at(const struct region *region, unsigned block);
 char look_letter(enum page_look page);
 
 /* A block in words: "primary v5", "partly PP-x". In brief, at most 11 letters, a copy has its version alone after
- * its kind: "primary 5". */
+ * its kind: "primary 5". In letters, at most 4, a copy has one before its version, "P5", and any other block one
+ * for each page: "PP-x", "----". */
 void look_words(const struct look *look, char words[LOOK_LEN]);
 void look_brief(const struct look *look, char words[LOOK_LEN]);
+void look_letters(const struct look *look, char words[LOOK_LEN]);
 
 /* Writes what a block of the region holds. */
 void look_write(struct json *json, const struct region *region, unsigned block);

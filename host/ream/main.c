@@ -69,6 +69,13 @@ const char *plural(uint64_t number)
 	return number == 1 ? "" : "s";
 }
 
+const char *size_word(uint64_t size)
+{
+	static const char *const words[] = { [4] = "four", [5] = "five", [6] = "six", [7] = "seven" };
+
+	return words[size];
+}
+
 static const struct command *find(const char *name)
 {
 	for (unsigned i = 0; i < sizeof(commands) / sizeof(commands[0]); i++)

@@ -6,7 +6,7 @@
 
 #include "json.h"
 
-enum { MOST_NOTES = 12, NOTE_LEN = 400 };
+enum { MOST_NOTES = 12, NOTE_LEN = 512 };
 
 struct notes {
 	unsigned count;

@@ -15,8 +15,8 @@
 #include "tool.h"
 
 static const char help[] =
-	"usage: ream pair [--blocks N] [--pages-per-block K] [--status FILE]\n"
-	"                 [--unreadable B:P,..] [--json] DUMP\n"
+	"usage: ream pair [--blocks N] [--region-blocks R] [--pages-per-block K]\n"
+	"                 [--status FILE] [--unreadable B:P,..] [--json] DUMP\n"
 	"\n"
 	"Reads the pair of bad-block tables in a dump of the large chip: its version,\n"
 	"the blocks of both copies, how many entries there are of each kind, and the\n"
@@ -52,12 +52,12 @@ static void find(struct finding *finding)
 
 static void print_region(const struct region *region)
 {
-	for (unsigned block = 0; block < REGION_BLOCKS; block++) {
+	for (unsigned block = 0; block < region->size; block++) {
 		const struct look look = look_at(region, block);
 		char words[LOOK_LEN];
 
 		look_words(&look, words);
-		printf("  block %" PRIu64 ": %s\n", region->n - REGION_BLOCKS + block, words);
+		printf("  block %" PRIu64 ": %s\n", region_first(region) + block, words);
 	}
 }
 
@@ -129,7 +129,7 @@ static void write_finding(const struct finding *finding)
 	notes_write(&json, "warnings", &finding->warnings);
 	notes_write(&json, "notes", &finding->notes);
 	json_list(&json, "region");
-	for (unsigned block = 0; block < REGION_BLOCKS; block++)
+	for (unsigned block = 0; block < region->size; block++)
 		look_write(&json, region, block);
 	json_end(&json);
 	json_truth(&json, "settled", finding->refusal == REAM_OK);

@@ -16,11 +16,11 @@ unsigned plan_make(struct plan *plan, const struct region *region, const uint8_t
 	plan->updates = wanted != NULL;
 	if (wanted) {
 		memcpy(plan->wanted, wanted, bitmap_len);
-		answer = ream_update_plan(region->n, region->image, image_len, region->status, status_len, wanted,
-					  bitmap_len, plan->steps, sizeof(plan->steps));
+		answer = ream_update_plan(region->n, region->size, region->image, image_len, region->status,
+					  status_len, wanted, bitmap_len, plan->steps, sizeof(plan->steps));
 	} else {
-		answer = ream_recovery_plan(region->n, region->image, image_len, region->status, status_len,
-					    plan->steps, sizeof(plan->steps));
+		answer = ream_recovery_plan(region->n, region->size, region->image, image_len, region->status,
+					    status_len, plan->steps, sizeof(plan->steps));
 	}
 	plan->version = ream_refusal(answer) == REAM_OK ? ream_version(answer) : 0;
 	plan->count = ream_refusal(answer) == REAM_OK ? ream_step_count(answer) : 0;
@@ -34,7 +34,7 @@ struct ream_step plan_step(const struct plan *plan, unsigned i)
 
 unsigned plan_block(const struct plan *plan, const struct ream_step *step)
 {
-	return (unsigned)(step->block - (plan->snapshot.n - REGION_BLOCKS));
+	return (unsigned)(step->block - region_first(&plan->snapshot));
 }
 
 /* The library proves that a page of its own plan is not refused, so this does not come back with one. */
@@ -45,11 +45,11 @@ void plan_page(const struct plan *plan, unsigned i, uint8_t page[PAGE_BYTES])
 	uint64_t answer;
 
 	if (plan->updates)
-		answer = ream_update_page(from->n, from->image, image_len, from->status, status_len, plan->wanted,
-					  ream_bitmap_size(from->n), i, page, PAGE_BYTES);
+		answer = ream_update_page(from->n, from->size, from->image, image_len, from->status, status_len,
+					  plan->wanted, ream_bitmap_size(from->n), i, page, PAGE_BYTES);
 	else
-		answer = ream_recovery_page(from->n, from->image, image_len, from->status, status_len, i, page,
-					    PAGE_BYTES);
+		answer = ream_recovery_page(from->n, from->size, from->image, image_len, from->status,
+					    status_len, i, page, PAGE_BYTES);
 	if (ream_refusal(answer) == REAM_OK)
 		return;
 	complain("the page of step %u is refused: %s", i, ream_refusal_text(ream_refusal(answer)));

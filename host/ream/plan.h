@@ -23,7 +23,7 @@ unsigned plan_make(struct plan *plan, const struct region *region, const uint8_t
 
 struct ream_step plan_step(const struct plan *plan, unsigned i);
 
-/* The block of the region that a step is on, 0 to 3. */
+/* The block of the region that a step is on, counted from its lowest. */
 unsigned plan_block(const struct plan *plan, const struct ream_step *step);
 
 /* The page that step i writes. */

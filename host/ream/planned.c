@@ -23,8 +23,9 @@
 
 static const char update_help[] =
 	"usage: ream update --mark-late B,B,.. [--apply OUT [--status-out FILE]]\n"
-	"                   [--pages DIR] [--force] [--blocks N] [--pages-per-block K]\n"
-	"                   [--status FILE] [--unreadable B:P,..] [--json] DUMP\n"
+	"                   [--pages DIR] [--force] [--blocks N] [--region-blocks R]\n"
+	"                   [--pages-per-block K] [--status FILE] [--unreadable B:P,..]\n"
+	"                   [--json] DUMP\n"
 	"\n"
 	"Plans the update of a settled pair of bad-block tables that marks blocks as\n"
 	"gone bad in use. A block that is not good already keeps its entry. A pair that\n"
@@ -36,8 +37,8 @@ static const char update_help[] =
 
 static const char recover_help[] =
 	"usage: ream recover [--apply OUT [--status-out FILE]] [--pages DIR] [--force]\n"
-	"                    [--blocks N] [--pages-per-block K] [--status FILE]\n"
-	"                    [--unreadable B:P,..] [--json] DUMP\n"
+	"                    [--blocks N] [--region-blocks R] [--pages-per-block K]\n"
+	"                    [--status FILE] [--unreadable B:P,..] [--json] DUMP\n"
 	"\n"
 	"Plans the recovery of a pair of bad-block tables, as after a power cut. Where\n"
 	"there is nothing to recover from, or to, it is refused, with exit status 1.\n"

@@ -13,24 +13,26 @@
 #include "tool.h"
 
 static const char help[] =
-	"usage: ream simulate [--blocks N] [--seed S] [--events E] [--stop] [--svg FILE]\n"
-	"                     [--dump OUT] [--status-out FILE] [--pages-per-block K]\n"
-	"                     [--force]\n"
+	"usage: ream simulate [--blocks N] [--region-blocks R] [--seed S] [--events E]\n"
+	"                     [--stop] [--svg FILE] [--dump OUT] [--status-out FILE]\n"
+	"                     [--pages-per-block K] [--force]\n"
 	"\n"
 	"Runs a history of updates, power cuts and recoveries on a chip in memory and\n"
-	"prints what the last four blocks hold after each event, and after each finished\n"
-	"recovery which table was kept. The same seed gives the same history. Every\n"
-	"event is judged; a broken rule ends the history, with exit status 1.\n"
+	"prints what its last blocks, the region, hold after each event, and after each\n"
+	"finished recovery which table was kept. The same seed gives the same history.\n"
+	"Every event is judged; a broken rule ends the history, with exit status 1.\n"
 	"\n"
 	"  --blocks N            the chip's blocks, a multiple of 4 from 8 to 32768;\n"
 	"                        1024 if not told\n"
+	"  --region-blocks R     the blocks of the region, 4 to 7, at most half of N;\n"
+	"                        4 if not told\n"
 	"  --seed S              1 if not told\n"
 	"  --events E            from 1 to 100000, 20 if not told; then what is begun\n"
 	"                        goes on to its end, without a cut\n"
 	"  --stop                stops after these events, with the chip as it is\n"
 	"  --svg FILE            draws the history, of at most 1000 events\n"
-	"  --dump OUT            writes the last four blocks as they are at the end, as\n"
-	"                        ream pair takes them\n"
+	"  --dump OUT            writes the region as it is at the end, as ream pair\n"
+	"                        takes it\n"
 	"  --status-out FILE     writes the status file that belongs to that dump\n"
 	"  --pages-per-block K   of that dump, 64 if not told\n"
 	"  --force               replaces files that are there already\n";
@@ -38,7 +40,8 @@ static const char help[] =
 enum { MOST_EVENTS = 100000, MOST_DRAWN = 1000 };
 
 struct order {
-	uint64_t blocks, seed, events, pages_per_block;
+	struct chip chip;
+	uint64_t seed, events;
 	bool stop, force;
 	const char *svg, *dump, *status_out;
 };
@@ -49,7 +52,7 @@ static enum parsed take(struct order *order, int argc, char **argv)
 	const char *file;
 	enum parsed parsed;
 
-	dump_blocks_option(&syntax, &order->blocks);
+	dump_chip_options(&syntax, &order->chip);
 	args_add(&syntax, (struct argument){ .name = "seed", .number = &order->seed, .most = UINT64_MAX });
 	args_add(&syntax, (struct argument){ .name = "events", .number = &order->events, .least = 1,
 					   .most = MOST_EVENTS });
@@ -58,7 +61,6 @@ static enum parsed take(struct order *order, int argc, char **argv)
 	args_add(&syntax, (struct argument){ .name = "dump", .text = &order->dump });
 	args_add(&syntax, (struct argument){ .name = "status-out", .text = &order->status_out });
 	args_add(&syntax, (struct argument){ .name = "force", .flag = &order->force });
-	dump_pages_option(&syntax, &order->pages_per_block);
 	parsed = args_parse(&syntax, argc, argv, &file);
 	if (parsed != PARSED)
 		return parsed;
@@ -67,13 +69,14 @@ static enum parsed take(struct order *order, int argc, char **argv)
 			 order->events, MOST_DRAWN);
 		return PARSED_WRONG;
 	}
-	return dump_fits(order->blocks, order->pages_per_block) ? PARSED : PARSED_WRONG;
+	return dump_fits(&order->chip) ? PARSED : PARSED_WRONG;
 }
 
 /* Runs the story and tells it. */
 static bool run(const struct order *order, struct story *story, struct row *row)
 {
-	const bool held = story_run(story, row, order->blocks, order->seed, order->events, order->stop);
+	const bool held = story_run(story, row, order->chip.blocks, (unsigned)order->chip.region_blocks,
+				    order->seed, order->events, order->stop);
 
 	timeline_print(story);
 	if (held)
@@ -97,7 +100,7 @@ static enum exit_status tell(const struct order *order, struct story *story, str
 		outputs_drop(&outputs);
 		return EXIT_REFUSED;
 	}
-	dump->pages_per_block = order->pages_per_block;
+	dump->pages_per_block = order->chip.pages_per_block;
 	dump->region = story->region;
 	if (!outputs_finish(&outputs))
 		return EXIT_WRONG;
@@ -107,7 +110,7 @@ static enum exit_status tell(const struct order *order, struct story *story, str
 
 enum exit_status simulate_command(int argc, char **argv)
 {
-	struct order order = { .blocks = 1024, .seed = 1, .events = 20, .pages_per_block = PAGES_PER_BLOCK };
+	struct order order = { .chip = { 1024, FEWEST_REGION_BLOCKS, PAGES_PER_BLOCK }, .seed = 1, .events = 20 };
 	const enum parsed parsed = take(&order, argc, argv);
 	enum exit_status status = EXIT_WRONG;
 	struct story story;

@@ -10,9 +10,11 @@
 bool status_read(struct region *region, const char *path, struct file_id *id)
 {
 	const size_t len = region_status_len(region);
+	char expected[80];
 
-	if (!input_read_whole(path, region->status, len,
-			      "one for each of the first P pages of the last four blocks", id))
+	snprintf(expected, sizeof(expected), "one for each of the first P pages of the last %s blocks",
+		 size_word(region->size));
+	if (!input_read_whole(path, region->status, len, expected, id))
 		return false;
 	for (size_t i = 0; i < len; i++) {
 		if (region->status[i] == REAM_READ_WELL || region->status[i] == REAM_UNREADABLE)
@@ -27,7 +29,7 @@ bool status_read(struct region *region, const char *path, struct file_id *id)
 /* Takes one page of a list as unreadable. */
 static bool mark_unreadable(struct region *region, const struct list *list, const struct item *item)
 {
-	const uint64_t first = region->n - REGION_BLOCKS;
+	const uint64_t first = region_first(region);
 	unsigned block;
 
 	if (!item->two) {
@@ -36,9 +38,10 @@ static bool mark_unreadable(struct region *region, const struct list *list, cons
 		return false;
 	}
 	if (item->first.outside || item->first.value < first || item->first.value >= region->n) {
-		complain("%s %s: %.*s is out of range, expected one of the last four blocks, %" PRIu64
+		complain("%s %s: %.*s is out of range, expected one of the last %s blocks, %" PRIu64
 			 " to %" PRIu64 " (%s)",
-			 list->option, list->text, item->len, item->text, first, region->n - 1, REFUSED_RANGE);
+			 list->option, list->text, item->len, item->text, size_word(region->size), first,
+			 region->n - 1, REFUSED_RANGE);
 		return false;
 	}
 	if (item->second.outside || item->second.value >= region->pages) {
@@ -79,12 +82,12 @@ unsigned status_count(const struct region *region)
 void status_write(struct json *json, const struct region *region)
 {
 	json_list(json, "unreadable");
-	for (unsigned block = 0; block < REGION_BLOCKS; block++) {
+	for (unsigned block = 0; block < region->size; block++) {
 		for (unsigned page = 0; page < region->pages; page++) {
 			if (region_reads_well(region, block, page))
 				continue;
 			json_object(json, NULL);
-			json_number(json, "block", region->n - REGION_BLOCKS + block);
+			json_number(json, "block", region_first(region) + block);
 			json_number(json, "page", page);
 			json_end(json);
 		}

@@ -14,7 +14,7 @@
 static void step_words(const struct story *story, const struct row *row, const char *before,
 		       char words[EVENT_LEN])
 {
-	const uint64_t block = story->region.n - REGION_BLOCKS + row->block;
+	const uint64_t block = region_first(&story->region) + row->block;
 
 	if (row->page == ALL_PAGES)
 		snprintf(words, EVENT_LEN, "%sstep %u: erase %" PRIu64, before, row->step, block);
@@ -91,7 +91,7 @@ static void end_row(struct story *story, enum result result)
 	if (story->broken)
 		return;
 	row = &story->row[story->rows - 1];
-	for (unsigned block = 0; block < REGION_BLOCKS; block++)
+	for (unsigned block = 0; block < story->region.size; block++)
 		row->look[block] = look_at(&story->region, block);
 	row->settled = table_read(&story->region, &table) == REAM_OK;
 	row->version = (uint8_t)table.version;
@@ -273,7 +273,7 @@ static void clear_behind(struct region *region)
 	const unsigned page = region->pages - 1;
 	const size_t len = region_part_len(region, page);
 
-	for (unsigned block = 0; block < REGION_BLOCKS; block++)
+	for (unsigned block = 0; block < region->size; block++)
 		if (region_signed(region, block, page, PRIMARY) || region_signed(region, block, page, MIRROR))
 			memset(region_data(region, block, page) + len, 0xFF, PAGE_DATA - len);
 }
@@ -291,7 +291,7 @@ static bool can_start(struct story *story)
 	return good >= n / 2;
 }
 
-static void begin(struct story *story, struct row *row, size_t room, uint64_t n, uint64_t seed)
+static void begin(struct story *story, struct row *row, size_t room, uint64_t n, unsigned size, uint64_t seed)
 {
 	struct start start;
 
@@ -302,18 +302,19 @@ static void begin(struct story *story, struct row *row, size_t room, uint64_t n,
 	story->broken = NULL;
 	story->seed = story->state = seed;
 	do
-		rig_start_on(&story->state, n, &start, &story->region);
+		rig_start_on(&story->state, n, size, &start, &story->region);
 	while (!can_start(story));
 	clear_behind(&story->region);
 	begin_row(story, (struct row){ .event = EVENT_START, .block = NOWHERE });
 	end_row(story, RESULT_NONE);
 }
 
-bool story_run(struct story *story, struct row *row, uint64_t n, uint64_t seed, uint64_t events, bool stop)
+bool story_run(struct story *story, struct row *row, uint64_t n, unsigned size, uint64_t seed, uint64_t events,
+	       bool stop)
 {
 	struct progress progress = progress_begin("simulating", events, NULL);
 
-	begin(story, row, (size_t)events + STORY_MORE, n, seed);
+	begin(story, row, (size_t)events + STORY_MORE, n, size, seed);
 	while (!story->broken && story->rows <= events && next_event(story, true, true))
 		progress_at(&progress, story->rows);
 	while (!story->broken && !stop && next_event(story, false, false))

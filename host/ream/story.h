@@ -1,7 +1,7 @@
 /*
- * A story: the last four blocks of a chip, through updates, power cuts and recoveries, drawn from a seed. Plans
- * and pages are the library's, what a step or a cut leaves on the chip is the rig's (rig.h), and after each event
- * the checker judges (checker.h), which never calls the library.
+ * A story: the region of a chip, through updates, power cuts and recoveries, drawn from a seed. Plans and pages
+ * are the library's, what a step or a cut leaves on the chip is the rig's (rig.h), and after each event the
+ * checker judges (checker.h), which never calls the library.
  *
  * While the pair is settled an update marks one more block as gone bad in use; while it is not, a recovery is
  * planned. A plan is carried out step by step, and power may fail in a step or before it.
@@ -25,7 +25,7 @@ enum event { EVENT_START, EVENT_UPDATE, EVENT_RECOVERY, EVENT_STEP, EVENT_CUT };
 enum result { RESULT_NONE, RESULT_UPDATED, RESULT_OLD_KEPT, RESULT_NEW_KEPT, RESULT_ONE_KEPT };
 
 /* The blocks and pages that an event was on; and the room for its words. */
-enum { NOWHERE = REGION_BLOCKS, ALL_PAGES = MOST_PAGES, EVENT_LEN = 48 };
+enum { NOWHERE = MOST_REGION_BLOCKS, ALL_PAGES = MOST_PAGES, EVENT_LEN = 48 };
 
 struct row {
 	enum event event;
@@ -33,7 +33,7 @@ struct row {
 	unsigned step;			/* the number of a step that was done or cut, or cut before */
 	unsigned to;			/* the version of a plan that was made */
 	uint64_t marked;		/* the block that went bad, of an update's plan */
-	struct look look[REGION_BLOCKS];	/* what it left */
+	struct look look[MOST_REGION_BLOCKS];	/* what it left in each block of the region */
 	bool settled;
 	uint8_t version;		/* of the settled table */
 	enum result result;
@@ -64,7 +64,7 @@ const char *story_reason(enum result result);
 enum { STORY_MORE = 1 + 2 * MOST_PAGES + 2 };
 
 /*
- * Runs a story on a chip of n blocks.
+ * Runs a story on a chip of n blocks with a region of `size` blocks.
  *
  *	row	room for events + STORY_MORE rows
  *	events	so many events, if good blocks to mark do not run out before
@@ -72,6 +72,7 @@ enum { STORY_MORE = 1 + 2 * MOST_PAGES + 2 };
  *
  * Gives false, with story->broken set, where a rule is broken.
  */
-bool story_run(struct story *story, struct row *row, uint64_t n, uint64_t seed, uint64_t events, bool stop);
+bool story_run(struct story *story, struct row *row, uint64_t n, unsigned size, uint64_t seed, uint64_t events,
+	       bool stop);
 
 #endif

@@ -1,6 +1,6 @@
 /*
- * A story as a picture. From left to right: the number and text of an event, the pages of the four blocks as the
- * event left them, the table's version, and what came of a plan that ran to its end. The colours are those of
+ * A story as a picture. From left to right: the number and text of an event, the pages of the region's blocks as
+ * the event left them, the table's version, and what came of a plan that ran to its end. The colours are those of
  * Okabe and Ito, which colour-blind readers can tell apart, and every cell has its letter or word besides.
  */
 #include "svg.h"
@@ -8,6 +8,7 @@
 #include <inttypes.h>
 
 #include "story.h"
+#include "tool.h"
 
 /* Lengths, in pixels. */
 enum {
@@ -56,7 +57,7 @@ static struct layout lay_out(const struct story *story)
 	layout.cell = pages == 1 ? WIDE_CELL : NARROW_CELL;
 	layout.blocks = MARGIN + NUMBERS + TEXTS;
 	layout.block = pages * layout.cell + BLOCK_GAP;
-	layout.table = layout.blocks + REGION_BLOCKS * layout.block;
+	layout.table = layout.blocks + story->region.size * layout.block;
 	layout.results = layout.table + TABLE;
 	layout.width = layout.results + RESULTS + MARGIN;
 	layout.height = row_top(story->rows - 1) + ROW + MARGIN;
@@ -208,10 +209,10 @@ static void draw_heads(FILE *stream, const struct story *story, const struct lay
 	char label[LOOK_LEN];
 
 	draw_text(stream, MARGIN + NUMBERS, y + HEAD_TEXT, "head", "event, from top to bottom");
-	for (unsigned block = 0; block < REGION_BLOCKS; block++) {
+	for (unsigned block = 0; block < story->region.size; block++) {
 		const unsigned x = layout->blocks + block * layout->block;
 
-		snprintf(label, sizeof(label), "block %" PRIu64, story->region.n - REGION_BLOCKS + block);
+		snprintf(label, sizeof(label), "block %" PRIu64, region_first(&story->region) + block);
 		draw_text(stream, x + pages * layout->cell / 2, y + HEAD_TEXT, "head middle", label);
 		for (unsigned page = 0; page < pages && pages > 1; page++) {
 			snprintf(label, sizeof(label), "%u", page);
@@ -232,10 +233,11 @@ static void draw_head(FILE *stream, const struct story *story, const struct layo
 	fprintf(stream,
 		"<text x=\"%d\" y=\"%d\" class=\"title\">A bad-block table through power cuts: N = %" PRIu64
 		" blocks, P = %u page%s a copy, seed %" PRIu64 "</text>\n",
-		MARGIN, TITLE, region->n, region->pages, region->pages == 1 ? "" : "s", story->seed);
-	draw_text(stream, MARGIN, SUBTITLE, "small",
-		  "The table is kept twice, as primary and mirror, in two of the chip's "
-		  "last four blocks. Each row shows these blocks as an event left them.");
+		MARGIN, TITLE, region->n, region->pages, plural(region->pages), story->seed);
+	fprintf(stream,
+		"<text x=\"%d\" y=\"%d\" class=\"small\">The table is kept twice, as primary and mirror, in two "
+		"of the chip's last %s blocks. Each row shows these blocks as an event left them.</text>\n",
+		MARGIN, SUBTITLE, size_word(region->size));
 	draw_legend(stream, region->pages == 1);
 	draw_heads(stream, story, layout, HEADS);
 }
@@ -307,7 +309,7 @@ static void draw_row(FILE *stream, const struct story *story, size_t number, con
 	story_event(story, row, words);
 	draw_text(stream, MARGIN + NUMBERS - 8, y + 21, "number", label);
 	draw_text(stream, MARGIN + NUMBERS, y + 21, event_kind(row->event), words);
-	for (unsigned block = 0; block < REGION_BLOCKS; block++)
+	for (unsigned block = 0; block < story->region.size; block++)
 		draw_pages(stream, row, block, layout, y + 5);
 	draw_table(stream, layout->table, y + 5, row->settled, row->version);
 	if (row->result != RESULT_NONE)

@@ -8,7 +8,7 @@
 
 unsigned table_read(const struct region *region, struct settled *table)
 {
-	const uint64_t answer = ream_table_read(region->n, region->image, region_image_len(region),
+	const uint64_t answer = ream_table_read(region->n, region->size, region->image, region_image_len(region),
 						region->status, region_status_len(region), table->bitmap,
 						ream_bitmap_size(region->n));
 

@@ -130,6 +130,7 @@ poke differing 0 '\376'
 expect 0 "pair: settled, version 5, primary in block 12, mirror in block 15" pair $chip settled
 says "chip: 16 blocks (told, unchecked), 1 page a block (told)"
 says "dump: the last four blocks; a copy of the table fills 1 page"
+says "region: the last four blocks, 12-15 (assumed)"
 says "pages: all 4 that count read well (assumed)"
 says "block 13: erased"
 says "block 14: bad"
@@ -219,8 +220,8 @@ says "  block 10: stays late"
 says "  block 11: stays factory"
 says "  block 12: good -> late"
 says_not "block 13: "
-for option in "--blocks 16" "--pages-per-block 1" "--status status_well" "--apply none" "--status-out none_status" \
-	"--pages none_pages" "--force" "--json"; do
+for option in "--blocks 16" "--region-blocks 4" "--pages-per-block 1" "--status status_well" "--apply none" \
+	"--status-out none_status" "--pages none_pages" "--force" "--json"; do
 	printf '\000\000\000\000' >status_well
 	expect_none none 2 "update: ${option%% *}: is given twice; expected it once" \
 		update $option $option --mark-late 5 settled
@@ -308,6 +309,184 @@ expect 0 "version 5" pair --blocks 8196 --pages-per-block 2 long_copies
 expect_warned 0 "a chip of more blocks has longer copies (--blocks)" "version 5" \
 	pair --blocks 4096 --pages-per-block 2 long_copies
 
+# ---- the region's size
+
+word() { # SIZE: as a word
+	echo four five six seven | cut -d ' ' -f $(($1 - 3))
+}
+alone="--blocks 16 --pages-per-block 1 --region-blocks"
+within="--pages-per-block 1 --region-blocks"
+for size in 4 5 6 7; do
+	first=$((16 - size))
+	last="the last $(word $size) blocks"
+	# the primary in the lowest block of the region, the mirror in the highest
+	make_dump $size 1 $size 1 >region
+	make_dump 16 1 $size 1 >chip_of_16
+	expect 0 "pair: settled, version 5, primary in block $first, mirror in block 15" pair $alone $size region
+	says "dump: $last; a copy of the table fills 1 page"
+	says "region: $last, $first-15 (told)"
+	says "pages: all $size that count read well (assumed)"
+	check "every block of the region is told" [ "$(grep -c '^  block [0-9]*: [pme]' out)" -eq $size ]
+	sed 1,2d out >of_region
+	expect 0 "dump: the whole chip" pair $within $size chip_of_16
+	says "chip: 16 blocks (by the dump's size), 1 page a block (told)"
+	sed 1,2d out >of_chip
+	check "a dump of the whole chip and one of $last agree" cmp of_region of_chip
+
+	expect 0 "pair: settled, version 6, primary in block $first, mirror in block 15" \
+		update $alone $size --mark-late 3,$first --apply marked --force region
+	says "   0  erase  $(printf %5d $first)     -  0x$(printf %09x $((first * 2048)))"
+	expect 0 "pair: settled, version 6" update $within $size --mark-late 3,$first --apply marked_chip --force chip_of_16
+	{ ff $((first * 2112)); cat marked; } >expected
+	check "an update of the whole chip's dump changes $last alike" cmp expected marked_chip
+	expect 0 "version 6, primary in block $first, mirror in block 15" pair $alone $size marked
+	for block in 3 7 $first; do
+		says "  block $block: late"
+	done
+
+	expect 1 "pair: refused, 10" pair $alone $size --unreadable $first:0 region
+	says "block $first: unreadable"
+	says "pages: of the $size that count 1 unreadable (told)"
+	says "recovery: would erase block 14 and write the primary there"
+	expect 0 "pair: settled, version 5, primary in block 14, mirror in block 15" recover $alone $size \
+		--unreadable $first:0 --apply mended --status-out mended_status --force region
+	{ printf '\001'; dd if=/dev/zero bs=$((size - 1)) count=1 2>/dev/null; } >expected
+	check "a status file has a byte for each block of the region" cmp expected mended_status
+	expect 0 "version 5, primary in block 14" pair $alone $size --status mended_status mended
+	expect 0 "primary in block 14" recover $within $size --unreadable $first:0 --apply mended_chip --force chip_of_16
+	{ ff $((first * 2112)); cat mended; } >expected
+	check "a recovery of the whole chip's dump changes $last alike" cmp expected mended_chip
+	# the lowest block is the only one to recover to, and with a bad one there is none
+	bads=$(awk "BEGIN { for (i = 2; i < $size; i++) printf \"bad; \" }")
+	eval "{ blank; $bads mirror 005; }" >lowest
+	expect 0 "pair: settled, version 5, primary in block $first, mirror in block 15" \
+		recover $alone $size --apply mended --force lowest
+	eval "{ bad; $bads mirror 005; }" >lowest
+	expect 1 "recover: refused, 11" recover $alone $size lowest
+
+	for len in $((size - 1)) $((size + 1)); do
+		dd if=/dev/zero bs=$len count=1 of=other_status 2>/dev/null
+		expect 2 "other_status: ends at offset $len, expected $size bytes, one for each of the first P pages of $last (" \
+			pair $alone $size --status other_status region
+	done
+	for block in $((first - 1)) 16; do
+		expect 2 "--unreadable $block:0: $block:0 is out of range, expected one of $last, $first to 15 (refusal 2" \
+			pair $alone $size --unreadable $block:0 region
+	done
+
+	# read with another size: a dump of the region is refused, of the whole chip what lies below is not found
+	for told in 4 5 6 7; do
+		[ $told -ne $size ] || continue
+		expect 2 "or the last $(word $told) blocks and --blocks N; --region-blocks $size and --blocks N would fit (refusal 2" \
+			pair $within $told region
+		expect 2 "the last $(word $told); it has $size blocks, --region-blocks $size would fit (refusal 1" \
+			pair $alone $told region
+		if [ $told -gt $size ]; then
+			expect 0 "primary in block $first, mirror in block 15" pair $within $told chip_of_16
+			continue
+		fi
+		warning="chip_of_16: block $first, page 0, at offset $((first * 2112)), carries a table's signature, where none"
+		warning="$warning can stand: with 16 blocks of 1 page expected only on the first 1 page of the last $(word $told)"
+		warning="$warning blocks; --region-blocks $size would have it found"
+		expect_warned 1 "$warning" "pair: refused, 10" pair $within $told chip_of_16
+		expect_warned 1 "$warning" "update: refused, 10" update $within $told --mark-late 3 chip_of_16
+		expect_warned 0 "$warning" "recover: 2 steps, to version 5" recover $within $told chip_of_16
+	done
+done
+
+# not told, it is four
+make_dump 5 64 5 1 >five
+expect 2 "five: has 5 blocks of 64 pages; expected a whole chip, a multiple of 4 blocks from 8 to 32768, or the last four" \
+	pair five
+check "the complaint tells what fits" grep -qF -e "; --region-blocks 5 and --blocks N would fit (refusal 2" err
+expect 2 "540672 bytes, the last four; it has 5 blocks, --region-blocks 5 would fit (refusal 1" pair --blocks 1024 five
+expect 0 "primary in block 1019, mirror in block 1023" pair --blocks 1024 --region-blocks 5 five
+make_dump 16 64 5 1 >below
+expect_warned 1 "last four blocks; --region-blocks 5 would have it found" "region: the last four blocks, 12-15 (assumed)" \
+	pair below
+expect 0 "pair: settled, version 5, primary in block 11, mirror in block 15" pair --region-blocks 5 below
+# a page that cannot be read contradicts nothing, and is none to tell of below the region
+expect 2 "--unreadable 11:0: 11:0 is out of range, expected one of the last four blocks" pair --unreadable 11:0 below
+expect 1 "pair: refused, 10" pair --region-blocks 5 --unreadable 11:0 below
+# copies of two pages
+{ ff 4224; primary 005; primary 005; ff 16896; mirror 005; mirror 005; } >seven
+expect 0 "pair: settled, version 5, primary in block 8190, mirror in block 8195" \
+	pair --blocks 8196 --pages-per-block 2 --region-blocks 7 --unreadable 8189:0,8194:1 seven
+says "pages: of the 14 that count 2 unreadable (told)"
+says "block 8189: partly x-"
+says "block 8194: partly -x"
+
+# what is told of the highest blocks
+make_dump 7 1 7 1 >seven_blocks
+poke seven_blocks 0 '\376'
+expect 1 "  block 0: primary reserved, mirror good; merged reserved" pair $alone 7 seven_blocks
+make_dump 7 1 7 1 >seven_blocks
+poke seven_blocks $((6 * 2112 + 750)) '\367'
+expect_warned 0 "seven_blocks: block 15, page 0, at offset 13422, has F7 in byte 750, behind the bitmap of 16 blocks" \
+	"pair: settled, version 5" pair $alone 7 seven_blocks
+
+# at most half of the chip
+for limit in 8:4:5 8:4:7 12:6:7; do
+	blocks=${limit%%:*}
+	size=${limit##*:}
+	most=${limit#*:}
+	most=${most%:*}
+	wrong="--region-blocks $size: expected at most $most, half of the chip's $blocks blocks (refusal 2: a number is outside"
+	make_dump $blocks 1 $most 1 >small
+	expect 0 "primary in block $((blocks - most)), mirror in block $((blocks - 1))" pair $within $most small
+	expect 2 "$wrong" pair $within $size small
+	for command in "pair small" "update --mark-late 1 --apply none small" "recover --apply none small" \
+		"simulate --dump none"; do
+		expect_none none 2 "$wrong" $command --blocks $blocks $within $size
+	done
+	expect 0 "no rule broken" simulate --blocks $blocks --region-blocks $most
+done
+make_dump 12 1 7 1 >small
+expect_warned 1 "small: block 5, page 0, at offset 10560, carries a table's signature" "refused, 10" pair $within 4 small
+check "a region that the chip cannot have is not told of" [ -z "$(grep -e '--region-blocks' err)" ]
+make_dump 5 1 5 1 >region
+expect 2 "the last four (refusal 1" pair --blocks 8 $within 4 region
+
+# the size that all signatures need which can stand; and other numbers that fit, alone or with it
+make_dump 16 64 5 6 >below
+expect_warned 1 "block 11, page 0, at offset 1486848, carries" "pair: refused, 7" pair below
+check "the size is that of both copies" grep -qF -e "; --region-blocks 6 would have it found" err
+expect_warned 1 "of the last five blocks; --region-blocks 6 would have it found" "refused, 10" pair --region-blocks 5 below
+make_dump 16 128 1 3 >long_blocks
+expect_warned 1 "; 128 pages a block (16 blocks) would fit (--pages-per-block); --region-blocks 6 would have it found" \
+	"pair: refused, 10" pair long_blocks
+expect_warned 0 "64 pages a block are assumed, but every copy of the table stands right for 128 pages a block (16 blocks)" \
+	"primary in block 30, mirror in block 26" pair --region-blocks 6 long_blocks
+make_dump 16 128 5 3 >long_blocks
+expect_warned 1 "; --region-blocks 6 would have it found; 128 pages a block (16 blocks) with --region-blocks 5 would fit" \
+	"pair: refused, 7" pair long_blocks
+make_dump 16 128 5 2 >long_blocks
+expect_warned 1 "four blocks; 128 pages a block (16 blocks) with --region-blocks 5 would fit (--pages-per-block)" \
+	"pair: refused, 10" pair long_blocks
+expect_warned 1 "five blocks; 128 pages a block (16 blocks) would fit (--pages-per-block)" "pair: refused, 10" \
+	pair --region-blocks 5 long_blocks
+expect 0 "primary in block 11, mirror in block 14" pair --region-blocks 5 --pages-per-block 128 long_blocks
+make_dump 8 128 1 2 >long_blocks
+expect_warned 0 "right for 128 pages a block (8 blocks) too" "pair: settled" pair --region-blocks 4 long_blocks
+expect 0 "pair: settled, version 5, primary in block 14, mirror in block 12" pair --region-blocks 5 long_blocks
+make_dump 5 128 1 2 >long_region
+expect 2 "the last five; --pages-per-block 128 would fit (refusal 1" pair --blocks 1024 --region-blocks 5 long_region
+make_dump 6 128 1 2 >long_region
+expect_warned 0 "right for 128 pages a block (the last six blocks) too" "chip: 12 blocks" pair long_region
+expect 0 "chip: 12 blocks (by the dump's size), 64 pages a block (assumed)" pair --region-blocks 4 long_region
+expect 2 "has 6 blocks of 128 pages; expected a whole chip" pair --pages-per-block 128 long_region
+check "the complaint tells what fits" grep -qF -e "; --region-blocks 6 and --blocks N would fit (refusal 2" err
+make_dump 6 128 1 6 >long_region
+expect_warned 1 "; 128 pages a block (the last six blocks) would fit (--pages-per-block)" "chip: 12 blocks" pair long_region
+# the longest blocks
+make_dump 12 1024 6 1 >longest_blocks
+expect_warned 1 "of the last four blocks; --region-blocks 6 would have it found" "pair: refused, 10" \
+	pair --pages-per-block 1024 longest_blocks
+expect_warned 1 "; 1024 pages a block (12 blocks) with --region-blocks 6 would fit (--pages-per-block)" "192 blocks" \
+	pair longest_blocks
+expect 0 "primary in block 6, mirror in block 11" pair --pages-per-block 1024 --region-blocks 6 longest_blocks
+rm longest_blocks
+
 # ---- what Linux leaves
 
 one_line() { # the last run's notes, without their line breaks
@@ -367,6 +546,31 @@ for copy_at in 0 6336; do
 done
 expect 0 "entries: 12 good, 4 reserved" pair $chip held
 notes_not "Linux"
+
+# Linux keeps four blocks for its tables, whatever the region's size: below them an entry may be its own
+{ primary 005; blank; blank; blank; mirror 005; } >worn_below
+for copy_at in 0 8448; do
+	poke worn_below $((copy_at + 2)) '\277'
+done
+expect 0 "  block 11: reserved" pair $alone 5 worn_below
+notes "note: 1 entry is reserved (10) and none late (01), as in a table that Linux writes"
+for copy_at in 0 8448; do
+	poke worn_below $((copy_at + 3)) '\376'
+done
+expect 0 "  blocks 11-12: reserved" pair $alone 5 worn_below
+notes_not "Linux"
+{ primary 005; ff 23232; mirror 005; blank; } >by_linux_in_seven
+expect 1 "pair: refused, 7" pair $two --region-blocks 7 by_linux_in_seven
+for block in 8189 8195; do
+	notes "note: block $block is a copy with its header on page 0 only"
+done
+# where the primary lies below its four blocks, it makes another
+{ ff 23232; primary 005; ff 4224; primary 006; mirror 006; } >by_linux_once_more
+expect 1 "pair: refused, 8" pair $within 5 by_linux_once_more
+expect_warned 0 "block 11, page 0, at offset 23232, carries" "version 6, primary in block 14" \
+	pair $within 4 by_linux_once_more
+dd if=/dev/zero of=by_linux_once_more bs=1 seek=$((23232 + 2048)) count=64 conv=notrunc 2>/dev/null
+expect 0 "version 6, primary in block 14" pair $within 5 by_linux_once_more
 
 # a table's block that went bad under Linux: its signature is there, and 0 in OOB 0
 { primary 005; primary 006; blank; mirror 006; } >given_up
@@ -464,6 +668,13 @@ for blocks in 0 4 10 32772 99999999999 99999999999999999999999 -8; do
 	expect 2 "pair: --blocks $blocks: out of range, expected a multiple of 4 from 8 to 32768 (refusal 2: a number" \
 		pair --blocks "$blocks" settled
 done
+for size in 0 3 8 99999999999 99999999999999999999999 -4; do
+	for command in "pair settled" "update --mark-late 1 --apply none settled" "recover --apply none settled" \
+		"simulate --dump none"; do
+		expect_none none 2 "--region-blocks $size: out of range, expected a number from 4 to 7 (refusal 2: a number" \
+			$command --region-blocks "$size"
+	done
+done
 expect 2 "settled: has 4 blocks of 1 page; expected a whole chip" pair --pages-per-block 1 settled
 expect 2 "settled: ends at offset 8448, inside block 0; expected whole blocks of 135168 bytes" pair settled
 expect 2 "settled: ends at offset 8448; expected 67584 bytes, all 16 blocks of 2 pages, or 16896 bytes, the last four" \
@@ -498,6 +709,11 @@ expect 2 "-b: no such option" pair -b settled
 expect 2 "-8: no such option" pair -8 settled
 expect 2 "--blocks: expected a value after it" pair --blocks
 expect 2 "--blocks x: expected a multiple of 4 from 8 to 32768" pair --blocks x settled
+expect 2 "--region-blocks x: expected a number from 4 to 7" pair --region-blocks x settled
+expect 2 "--region-blocks 5.0: expected a number from 4 to 7" pair --region-blocks 5.0 settled
+expect 2 "--region-blocks: expected a value after it" pair --region-blocks
+expect 2 "--region: no such option; --region-blocks has to be named in full" pair --region 5 settled
+expect 2 "--region-blocks: no such option" page --region-blocks 4 settled
 expect 2 "--pages-per-block 0: out of range, expected a number from 1 to 1024" pair --pages-per-block 0 settled
 expect 2 "--pages-per-block -8: out of range, expected a number from 1 to 1024" pair --pages-per-block=-8 settled
 expect 2 "no file; expected DUMP" pair $chip
@@ -768,8 +984,9 @@ sys.exit(0 if all(eval(expression) for expression in sys.argv[1:]) else 1)' "$@"
 }
 if command -v python3 >/dev/null && python3 -c 'import json' 2>/dev/null; then
 	json 0 pair $chip kinds
-	has "d['command'] == 'pair'" "d['chip'] == {'blocks': 16, 'blocks_told': True, 'pages_per_block': 1,
-		'pages_per_block_told': True, 'table_pages': 1}" "d['dump']['whole_chip'] is False" \
+	has "d['command'] == 'pair'" "d['chip'] == {'blocks': 16, 'blocks_told': True, 'region_blocks': 4,
+		'region_blocks_told': False, 'pages_per_block': 1, 'pages_per_block_told': True, 'table_pages': 1}" \
+		"d['dump']['whole_chip'] is False" \
 		"d['dump']['size'] == 8448" "d['dump']['status_told'] is False" "d['dump']['unreadable'] == []" \
 		"d['settled'] is True" "d['refusal'] is None" "d['version'] == 5" "d['primary'] == 12" "d['mirror'] == 15" \
 		"d['entries'] == {'good': 13, 'reserved': 1, 'late': 1, 'factory': 1}" \
@@ -781,6 +998,14 @@ if command -v python3 >/dev/null && python3 -c 'import json' 2>/dev/null; then
 		"d['dump']['unreadable'] == [{'block': 13, 'page': 0}]" "d['recovery']['version'] == 6" \
 		"d['recovery']['steps'] == [{'step': 0, 'does': 'erase', 'block': 15, 'address': 30720},
 			{'step': 1, 'does': 'write', 'block': 15, 'page': 0, 'address': 30720}]"
+	for command in "pair" "update --mark-late 0" "recover"; do
+		json 0 $command --blocks 8196 --pages-per-block 2 --region-blocks 7 --unreadable 8189:0,8194:1 seven
+		has "d['chip'] == {'blocks': 8196, 'blocks_told': True, 'region_blocks': 7, 'region_blocks_told': True,
+			'pages_per_block': 2, 'pages_per_block_told': True, 'table_pages': 2}" \
+			"d['dump']['unreadable'] == [{'block': 8189, 'page': 0}, {'block': 8194, 'page': 1}]" \
+			"(d if d['command'] == 'pair' else d['after'])['primary'] == 8190" \
+			"d['command'] != 'pair' or [b['block'] for b in d['region']] == list(range(8189, 8196))"
+	done
 	json 1 pair $chip no_copy
 	has "d['refusal']['number'] == 7" "d['recovery']['refusal']['number'] == 7" "'steps' not in d['recovery']"
 	json 1 pair $chip differing_more
@@ -828,6 +1053,10 @@ if command -v python3 >/dev/null && python3 -c 'import json' 2>/dev/null; then
 	"$ream" pair --blocks 8 --json last_four >out 2>err
 	check "a warning is on the standard error" grep -q "^ream: warning: last_four: block 6" err
 	has "d['warnings'][0].startswith('last_four: block 6, page 0, at offset 271086, has F7 in byte 750')"
+	"$ream" pair --json below >out 2>err
+	check "a warning is on the standard error" grep -q "^ream: warning: below: block 11, .* would have it found$" err
+	has "d['warnings'][0].endswith('; --region-blocks 6 would have it found')" "d['chip']['region_blocks'] == 4" \
+		"d['chip']['region_blocks_told'] is False" "[b['block'] for b in d['region']] == [12, 13, 14, 15]"
 else
 	skipped "JSON: there is no python3"
 fi
@@ -836,7 +1065,7 @@ fi
 
 expect 0 "judged after every event: no rule broken" simulate
 cp out first
-expect 0 "no rule broken" simulate --blocks 1024 --seed 1 --events 20
+expect 0 "no rule broken" simulate --blocks 1024 --region-blocks 4 --seed 1 --events 20
 check "a seed gives the same history again" cmp first out
 expect 0 "no rule broken" simulate --seed 2
 check "another seed gives another history" test -n "$(cmp first out 2>&1)"
@@ -858,6 +1087,44 @@ for blocks in 8 8192 8196 16388 24580 32768; do
 	check "the picture is whole" grep -q "^</svg>" "picture_$blocks"
 	check "a cut is drawn" grep -q 'class="cut">CUT' "picture_$blocks"
 done
+# a region of more blocks: a column for each, in the text and in the picture
+rows() { # of the last run's history
+	grep '^ *[0-9][0-9]*[! ]' out | grep -vc ' events*: '
+}
+cells() { # PICTURE: its cells, without those of the legend
+	echo $(($(grep -c 'class="page ' "$1") - 6))
+}
+right_of_blocks() { # PICTURE
+	awk -F '"' '/class="page / && $2 + $6 > right { right = $2 + $6 } />table read</ { table = $2 }
+		END { exit !(right > 0 && right < table) }' "$1"
+}
+for shape in "16 5" "8192 6" "8196 7" "16388 5" "24580 6" "32768 7"; do
+	blocks=${shape% *}
+	size=${shape#* }
+	expect 0 "no rule broken" simulate --blocks $blocks --region-blocks $size --events 60 --seed $blocks \
+		--svg "picture_${blocks}_$size"
+	says "The last $(word $size) blocks, event by event"
+	says "P7 is a primary and M7 a mirror, of version 7"
+	check "the table kept has its version" kept_as_told
+	seq $((blocks - size)) $((blocks - 1)) >expected
+	sed -n 's/^ *event \(.*\) read$/\1/p' out | tr -s ' ' '\n' | grep . >heads
+	check "the text has a column for each block" cmp expected heads
+	sed -n 's|.*class="head middle">block \([0-9]*\)</text>|\1|p' "picture_${blocks}_$size" | sort -nu >heads
+	check "the picture has a column for each block" cmp expected heads
+	check "the picture has every page of the region in every row" \
+		[ "$(cells "picture_${blocks}_$size")" -eq $(($(rows) * size * ((blocks + 8191) / 8192))) ]
+	check "the picture has the table right of the last block" right_of_blocks "picture_${blocks}_$size"
+	check "the picture tells the size" grep -q "in two of the chip's last $(word $size) blocks" "picture_${blocks}_$size"
+	check "the picture is whole" grep -q "^</svg>" "picture_${blocks}_$size"
+done
+expect 0 "no rule broken" simulate --region-blocks 6 --seed 28 --events 3 --stop
+says "  2 step 0: erase           M182   *-       -       x       x       x       -"
+says "  3!CUT, step 1: page 0     M182   *P183    -       x       x       x       -"
+expect 0 "no rule broken" simulate --blocks 32768 --region-blocks 7 --seed 4 --events 9 --stop
+says "  7 step 5: erase                *----  ????  ????  B???  PMM?  B???  P49   -"
+says "  8 step 6: page 0               *M---  ????  ????  B???  PMM?  B???  P49   -"
+expect 0 "no rule broken" simulate --blocks 32768 --region-blocks 7 --events 3000 --seed 18446744073709551615
+expect 0 "No good block is left to mark" simulate --blocks 16 --region-blocks 7 --events 2000
 expect 0 "picture written: picture_645" simulate --seed 645 --events 13 --svg picture_645
 check "the picture in docs is what make run draws" cmp "$root/docs/power-cuts.svg" picture_645
 # the heads stand again every 40 rows; the bolt of a cut ends left of a number of four digits, 7 wide each
@@ -886,10 +1153,11 @@ expect 0 "1 event: 1 update planned, 0 power cuts, 0 recoveries planned" simulat
 expect 0 "1 recovery planned" simulate --seed 6 --events 3
 expect 0 "no rule broken" simulate --blocks 32768 --events 3000 --seed 18446744073709551615
 expect 2 "--seed -8: out of range, expected a number from 0 to 18446744073709551615" simulate --seed -8
-# What a history leaves where it stops can be recovered, and then updated.
-for seed in 1 2 3 4 5 6 7 8 9 10 11 12; do
+# What a history leaves where it stops can be recovered, and then updated: on regions of four blocks, and of more.
+for seed in 1 2 3 4 5 6 7 8 9 10 11 12 13 14 15 16 17 18 19 20 21 22 23 24; do
 	blocks=$((seed % 4 * 8192 + 8192))
 	shape="--blocks $blocks --pages-per-block 5"
+	[ $seed -le 12 ] || shape="--blocks $((blocks - 4)) --pages-per-block 5 --region-blocks $((5 + seed % 3))"
 	expect 0 "no rule broken" simulate $shape --seed $seed --events $((seed + 2)) --stop --force \
 		--dump cut --status-out cut_status
 	expect 0 "pair: settled" recover $shape --status cut_status --apply mended --status-out mended_status \
@@ -920,7 +1188,7 @@ expect 0 "usage: ream COMMAND" --help
 expect 0 "usage: ream COMMAND" -h
 expect 0 "usage: ream COMMAND" help
 expect 2 "pear: no such command" help pear
-expect 0 "ream 1.0" --version
+expect 0 "ream 2.0" --version
 
 check "no temporary file is left" test -z "$(find . -name '*.??????')"
 

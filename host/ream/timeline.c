@@ -6,40 +6,45 @@
 
 #include "tool.h"
 
-/* The columns: the number of an event, the bolt's !, its words, four blocks with their *, and the table. */
-enum { COLUMNS = 80, NUMBER = 3, BLOCK = 11, TABLE = 4, WORDS_LEN = 24 };
+/* The columns: the number of an event, the bolt's !, its words, the blocks with their *, and the table. */
+enum { COLUMNS = 80, NUMBER = 3, BLOCKS = 48, TABLE = 4, WORDS_LEN = 24 };
 
-/* How wide the column of the numbers is. */
-static int number_width(const struct story *story)
+/* How wide the columns are that are not always alike. */
+struct widths {
+	int number, words, block;
+	bool brief;	/* a block has room for words; otherwise it has letters */
+};
+
+static struct widths find_widths(const struct story *story)
 {
-	int width = NUMBER;
+	const int blocks = (int)story->region.size;
+	struct widths widths = { .number = NUMBER, .block = BLOCKS / blocks - 1 };
 
 	for (size_t last = story->rows - 1; last >= 1000; last /= 10)
-		width++;
-	return width;
+		widths.number++;
+	widths.words = COLUMNS - widths.number - 1 - blocks * (1 + widths.block) - 1 - TABLE;
+	widths.brief = blocks == FEWEST_REGION_BLOCKS;
+	return widths;
 }
 
-/* How wide the column of the words is then. */
-static int words_width(int number)
-{
-	return COLUMNS - number - 1 - REGION_BLOCKS * (1 + BLOCK) - 1 - TABLE;
-}
-
-static void print_head(const struct story *story, int number)
+static void print_head(const struct story *story, const struct widths *widths)
 {
 	const struct region *region = &story->region;
-	const uint64_t first = region->n - REGION_BLOCKS;
 
 	printf("N = %" PRIu64 " blocks, P = %u page%s a copy, seed %" PRIu64 ".\n", region->n, region->pages,
 	       plural(region->pages), story->seed);
-	printf("The last four blocks, event by event; * marks the one that it is on, ! a power\n"
-	       "cut. The table is read where the pair is settled.\n");
-	if (region->pages > 1)
+	printf("The last %s blocks, event by event; * marks the one that it is on, ! a power\n"
+	       "cut. The table is read where the pair is settled.\n",
+	       size_word(region->size));
+	if (!widths->brief)
+		printf("P7 is a primary and M7 a mirror, of version 7; pages of other blocks: P of a\n"
+		       "primary, M of a mirror, - erased, x unreadable, B marked bad, ? other bytes.\n");
+	else if (region->pages > 1)
 		printf("Pages of a block partly written: P of a primary, M of a mirror, - erased,\n"
 		       "x unreadable.\n");
-	printf("\n%*s %-*s", number, "", words_width(number), "event");
-	for (unsigned block = 0; block < REGION_BLOCKS; block++)
-		printf(" %-*" PRIu64, BLOCK, first + block);
+	printf("\n%*s %-*s", widths->number, "", widths->words, "event");
+	for (unsigned block = 0; block < region->size; block++)
+		printf(" %-*" PRIu64, widths->block, region_first(region) + block);
 	printf(" read\n");
 }
 
@@ -62,28 +67,32 @@ static void event_words(const struct row *row, char words[WORDS_LEN])
 		snprintf(words, WORDS_LEN, "%sstep %u: page %u", before, row->step, row->page);
 }
 
-static void print_result(const struct row *row, int number)
+static void print_result(const struct row *row, const struct widths *widths)
 {
-	printf("%*s  => %s, v%u: %s\n", number, "", story_result(row->result), row->version,
+	printf("%*s  => %s, v%u: %s\n", widths->number, "", story_result(row->result), row->version,
 	       story_reason(row->result));
 }
 
-static void print_row(const struct row *row, size_t i, int number)
+static void print_row(const struct story *story, size_t i, const struct widths *widths)
 {
+	const struct row *row = &story->row[i];
 	char words[WORDS_LEN], holds[LOOK_LEN];
 
 	event_words(row, words);
-	printf("%*zu%c%-*s", number, i, row->event == EVENT_CUT ? '!' : ' ', words_width(number), words);
-	for (unsigned block = 0; block < REGION_BLOCKS; block++) {
-		look_brief(&row->look[block], holds);
-		printf("%c%-*s", block == row->block ? '*' : ' ', BLOCK, holds);
+	printf("%*zu%c%-*s", widths->number, i, row->event == EVENT_CUT ? '!' : ' ', widths->words, words);
+	for (unsigned block = 0; block < story->region.size; block++) {
+		if (widths->brief)
+			look_brief(&row->look[block], holds);
+		else
+			look_letters(&row->look[block], holds);
+		printf("%c%-*s", block == row->block ? '*' : ' ', widths->block, holds);
 	}
 	if (row->settled)
 		printf(" v%u\n", row->version);
 	else
 		printf(" -\n");
 	if (row->result != RESULT_NONE)
-		print_result(row, number);
+		print_result(row, widths);
 }
 
 /* How many rows have this event. */
@@ -107,11 +116,11 @@ static void print_sum(const struct story *story)
 
 void timeline_print(const struct story *story)
 {
-	const int number = number_width(story);
+	const struct widths widths = find_widths(story);
 
-	print_head(story, number);
+	print_head(story, &widths);
 	for (size_t i = 0; i < story->rows; i++)
-		print_row(&story->row[i], i, number);
+		print_row(story, i, &widths);
 	if (story->all_marked)
 		printf("No good block is left to mark: here the history ends.\n");
 	print_sum(story);

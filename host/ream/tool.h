@@ -38,4 +38,7 @@ void write_refusal(struct json *json, unsigned refusal);	/* null where there is 
 /* The ending of a word that stands after a number. */
 const char *plural(uint64_t number);
 
+/* A size of the region, 4 to 7, as a word. */
+const char *size_word(uint64_t size);
+
 #endif

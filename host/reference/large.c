@@ -1,6 +1,7 @@
 /*
- * The large chip, straight from document 01, in its order and its words, as small.c has the small page.
- * Nothing here is shared with the library, not even its header.
+ * The large chip, straight from document 01, in its order and its words, as small.c has the small page. What that
+ * says of the region's four blocks holds for the size that is given, as document 02 has it. Nothing here is shared
+ * with the library, not even its header.
  *
  * Reading a table, planning an update and its page images are the benchmark's yardstick besides, so they do
  * their work as a C programmer would: bitmaps are compared by memcmp and copied by memcpy, a page's part at a
@@ -14,7 +15,6 @@
 enum {
 	DATA = 2048,
 	PAGE = 2048 + 64,
-	REGION = 4,		/* "The region is the last four blocks." */
 	MOST_BITMAP = 8192,	/* N/4 of the largest N */
 	MOST_STEPS = 10,	/* "2P + 2 steps, at most ten" */
 	STEPS_LEN = 64,
@@ -40,17 +40,24 @@ static bool is_number_of_blocks(uint64_t n)
 	return n >= 8 && n <= 32768 && n % 4 == 0;
 }
 
+/* Document 02: "the region's size, 4 to 7 blocks", "refusal 2 outside these or with N below twice it" */
+static bool is_chip(uint64_t n, uint64_t size)
+{
+	return is_number_of_blocks(n) && size >= 4 && size <= 7 && n >= 2 * size;
+}
+
 /* "P = N/4 divided by 2,048, rounded up" */
 static size_t pages_of(uint64_t n)
 {
 	return (size_t)((n / 4 + 2047) / 2048);
 }
 
-/* ---- the region: a lent image and its status bytes, of a valid N and of the right lengths. Its blocks are
- * counted from 0, lowest first. */
+/* ---- the region: a lent image and its status bytes, of a valid N and size and of the right lengths. Its blocks
+ * are counted from 0, lowest first. */
 
 struct region {
 	uint64_t n;
+	uint64_t size;	/* its blocks, the last of the chip */
 	size_t pages;	/* P */
 	const uint8_t *image;
 	const uint8_t *status;
@@ -74,16 +81,16 @@ static bool reads_well(const struct region *region, size_t block, size_t page)
 /* "a status byte outside its range" */
 static bool has_bad_status(const struct region *region)
 {
-	for (size_t i = 0; i < REGION * region->pages; i++)
+	for (size_t i = 0; i < region->size * region->pages; i++)
 		if (region->status[i] > 1)
 			return true;
 	return false;
 }
 
-/* "N - 4 to N - 1" */
+/* "N - 4 to N - 1", where 4 is the size */
 static uint64_t chip_block(const struct region *region, size_t block)
 {
-	return region->n - REGION + block;
+	return region->n - region->size + block;
 }
 
 /* How many bytes of the bitmap stand in a page. "The rest of the last page is ignored on reading." */
@@ -145,7 +152,7 @@ static struct pair pair_of(const struct region *region)
 {
 	struct pair pair = { { 0, 0 }, { 0, 0 } };
 
-	for (size_t block = 0; block < REGION; block++) {
+	for (size_t block = 0; block < region->size; block++) {
 		for (enum kind kind = PRIMARY; kind <= MIRROR; kind++) {
 			if (is_good(region, block, kind)) {
 				pair.good[kind]++;
@@ -316,7 +323,7 @@ static void recover_both(const struct region *region, const struct pair *pair, s
  * Erase it, write the missing kind, same version." */
 static enum refusal recover_one(const struct region *region, size_t good, enum kind missing, struct plan *plan)
 {
-	for (size_t target = REGION; target-- > 0;) {
+	for (size_t target = (size_t)region->size; target-- > 0;) {
 		if (target == good || is_readable_as_bad(region, target))
 			continue;
 		table_copy(region, good, plan->table);
@@ -367,16 +374,17 @@ static enum refusal page_image(const struct region *region, const struct plan *p
 	return ANSWERED;
 }
 
-/* ---- the entries. Order of refusals: N, then lengths, then status bytes, then 8, 7, 9, then 10 or 11, and
- * last the step's number. */
+/* ---- the entries. Order of refusals: N and size, then lengths, then status bytes, then 8, 7, 9, then 10 or
+ * 11, and last the step's number. */
 
 /* The first three of these. `others_fit`: are the lengths of the buffers beside image and status right? */
 static enum refusal arguments_refusal(const struct region *region, size_t image_len, size_t status_len,
 				      bool others_fit)
 {
-	if (!is_number_of_blocks(region->n))
+	if (!is_chip(region->n, region->size))
 		return OUT_OF_RANGE;
-	if (image_len != REGION * region->pages * PAGE || status_len != REGION * region->pages || !others_fit)
+	if (image_len != region->size * region->pages * PAGE || status_len != region->size * region->pages ||
+	    !others_fit)
 		return WRONG_LENGTH;
 	if (has_bad_status(region))
 		return OUT_OF_RANGE;
@@ -417,9 +425,10 @@ static uint64_t plan_write(const struct plan *plan, uint8_t *steps)
 
 /* "From N lent bytes, OOB byte 0 of the first page of each block: a byte 0 gives 00, any other 11." Block b
  * stands "in bits 2(b mod 4) and up of byte b/4". */
-uint64_t ref_first_bitmap(uint64_t n, const uint8_t *marks, size_t marks_len, uint8_t *bitmap, size_t bitmap_len)
+uint64_t ref_first_bitmap(uint64_t n, uint64_t size, const uint8_t *marks, size_t marks_len, uint8_t *bitmap,
+			  size_t bitmap_len)
 {
-	if (!is_number_of_blocks(n))
+	if (!is_chip(n, size))
 		return OUT_OF_RANGE;
 	if (marks_len != n || bitmap_len != n / 4)
 		return WRONG_LENGTH;
@@ -436,10 +445,10 @@ uint64_t ref_first_bitmap(uint64_t n, const uint8_t *marks, size_t marks_len, ui
 }
 
 /* "Reading a settled pair gives its version and the chip block of each copy, and writes the bitmap." */
-uint64_t ref_table_read(uint64_t n, const uint8_t *image, size_t image_len, const uint8_t *status,
+uint64_t ref_table_read(uint64_t n, uint64_t size, const uint8_t *image, size_t image_len, const uint8_t *status,
 			size_t status_len, uint8_t *bitmap, size_t bitmap_len)
 {
-	const struct region region = { n, pages_of(n), image, status };
+	const struct region region = { n, size, pages_of(n), image, status };
 	enum refusal refusal = arguments_refusal(&region, image_len, status_len, bitmap_len == n / 4);
 	struct pair pair;
 
@@ -457,11 +466,11 @@ uint64_t ref_table_read(uint64_t n, const uint8_t *image, size_t image_len, cons
 	       chip_block(&region, pair.block[PRIMARY]) << 16 | chip_block(&region, pair.block[MIRROR]) << 32;
 }
 
-uint64_t ref_update_plan(uint64_t n, const uint8_t *image, size_t image_len, const uint8_t *status,
+uint64_t ref_update_plan(uint64_t n, uint64_t size, const uint8_t *image, size_t image_len, const uint8_t *status,
 			 size_t status_len, const uint8_t *wanted, size_t wanted_len, uint8_t *steps,
 			 size_t steps_len)
 {
-	const struct region region = { n, pages_of(n), image, status };
+	const struct region region = { n, size, pages_of(n), image, status };
 	const bool others_fit = wanted_len == n / 4 && steps_len == STEPS_LEN;
 	struct plan plan;
 	const enum refusal refusal = update_planned(&region, image_len, status_len, others_fit, wanted, &plan);
@@ -471,10 +480,10 @@ uint64_t ref_update_plan(uint64_t n, const uint8_t *image, size_t image_len, con
 	return plan_write(&plan, steps);
 }
 
-uint64_t ref_recovery_plan(uint64_t n, const uint8_t *image, size_t image_len, const uint8_t *status,
+uint64_t ref_recovery_plan(uint64_t n, uint64_t size, const uint8_t *image, size_t image_len, const uint8_t *status,
 			   size_t status_len, uint8_t *steps, size_t steps_len)
 {
-	const struct region region = { n, pages_of(n), image, status };
+	const struct region region = { n, size, pages_of(n), image, status };
 	struct plan plan;
 	const enum refusal refusal = recovery_planned(&region, image_len, status_len, steps_len == STEPS_LEN, &plan);
 
@@ -484,11 +493,11 @@ uint64_t ref_recovery_plan(uint64_t n, const uint8_t *image, size_t image_len, c
 }
 
 /* "Page images, 2,112 bytes each, are asked for by step number from the snapshot the plan was made from." */
-uint64_t ref_update_page(uint64_t n, const uint8_t *image, size_t image_len, const uint8_t *status,
+uint64_t ref_update_page(uint64_t n, uint64_t size, const uint8_t *image, size_t image_len, const uint8_t *status,
 			 size_t status_len, const uint8_t *wanted, size_t wanted_len, uint64_t step,
 			 uint8_t *page, size_t page_len)
 {
-	const struct region region = { n, pages_of(n), image, status };
+	const struct region region = { n, size, pages_of(n), image, status };
 	const bool others_fit = wanted_len == n / 4 && page_len == PAGE;
 	struct plan plan;
 	const enum refusal refusal = update_planned(&region, image_len, status_len, others_fit, wanted, &plan);
@@ -498,10 +507,10 @@ uint64_t ref_update_page(uint64_t n, const uint8_t *image, size_t image_len, con
 	return page_image(&region, &plan, step, page);
 }
 
-uint64_t ref_recovery_page(uint64_t n, const uint8_t *image, size_t image_len, const uint8_t *status,
+uint64_t ref_recovery_page(uint64_t n, uint64_t size, const uint8_t *image, size_t image_len, const uint8_t *status,
 			   size_t status_len, uint64_t step, uint8_t *page, size_t page_len)
 {
-	const struct region region = { n, pages_of(n), image, status };
+	const struct region region = { n, size, pages_of(n), image, status };
 	struct plan plan;
 	const enum refusal refusal = recovery_planned(&region, image_len, status_len, page_len == PAGE, &plan);
 

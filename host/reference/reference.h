@@ -19,23 +19,24 @@ uint64_t ref_spare_read(const uint8_t *spare, size_t spare_len, uint8_t *fields,
 uint64_t ref_page_read(uint8_t *data, size_t data_len, const uint8_t *spare, size_t spare_len,
 		       uint8_t *fields, size_t fields_len);
 
-uint64_t ref_first_bitmap(uint64_t n, const uint8_t *marks, size_t marks_len, uint8_t *bitmap, size_t bitmap_len);
+uint64_t ref_first_bitmap(uint64_t n, uint64_t size, const uint8_t *marks, size_t marks_len, uint8_t *bitmap,
+			  size_t bitmap_len);
 
-uint64_t ref_table_read(uint64_t n, const uint8_t *image, size_t image_len, const uint8_t *status,
+uint64_t ref_table_read(uint64_t n, uint64_t size, const uint8_t *image, size_t image_len, const uint8_t *status,
 			size_t status_len, uint8_t *bitmap, size_t bitmap_len);
 
-uint64_t ref_update_plan(uint64_t n, const uint8_t *image, size_t image_len, const uint8_t *status,
+uint64_t ref_update_plan(uint64_t n, uint64_t size, const uint8_t *image, size_t image_len, const uint8_t *status,
 			 size_t status_len, const uint8_t *wanted, size_t wanted_len, uint8_t *steps,
 			 size_t steps_len);
 
-uint64_t ref_recovery_plan(uint64_t n, const uint8_t *image, size_t image_len, const uint8_t *status,
+uint64_t ref_recovery_plan(uint64_t n, uint64_t size, const uint8_t *image, size_t image_len, const uint8_t *status,
 			   size_t status_len, uint8_t *steps, size_t steps_len);
 
-uint64_t ref_update_page(uint64_t n, const uint8_t *image, size_t image_len, const uint8_t *status,
+uint64_t ref_update_page(uint64_t n, uint64_t size, const uint8_t *image, size_t image_len, const uint8_t *status,
 			 size_t status_len, const uint8_t *wanted, size_t wanted_len, uint64_t step,
 			 uint8_t *page, size_t page_len);
 
-uint64_t ref_recovery_page(uint64_t n, const uint8_t *image, size_t image_len, const uint8_t *status,
+uint64_t ref_recovery_page(uint64_t n, uint64_t size, const uint8_t *image, size_t image_len, const uint8_t *status,
 			   size_t status_len, uint64_t step, uint8_t *page, size_t page_len);
 
 #endif

@@ -46,14 +46,26 @@ static void spoil_length(struct driver *driver, uint64_t *state, enum asked aske
 	lent->len = told < lent->held ? told : told + 1;
 }
 
-/* Puts in the flaw, and gives N as it is told. */
-static uint64_t spoil_arguments(struct driver *driver, uint64_t *state, const struct request *request)
+/* The numbers of a call, as they are told. */
+struct told {
+	uint64_t n;
+	uint64_t size;
+	uint64_t step;
+};
+
+/* Puts in the flaw. */
+static void spoil_arguments(struct driver *driver, uint64_t *state, const struct request *request, struct told *told)
 {
-	static const uint64_t no_sizes[] = { 0, 4, 9, 10, 32772, UINT64_MAX };
+	const uint64_t no_numbers[] = { 0, 4, 9, 10, 32772, UINT64_MAX };
+	const uint64_t no_sizes[] = { 0, 3, 8, told->n / 2 + 1, ((uint64_t)1 << 32) + told->size, UINT64_MAX };
 
 	switch (request->flaw) {
 	case FLAW_N:
-		return no_sizes[draw_below(state, sizeof(no_sizes) / sizeof(no_sizes[0]))];
+		told->n = no_numbers[draw_below(state, sizeof(no_numbers) / sizeof(no_numbers[0]))];
+		break;
+	case FLAW_SIZE:
+		told->size = no_sizes[draw_below(state, sizeof(no_sizes) / sizeof(no_sizes[0]))];
+		break;
 	case FLAW_LENGTH:
 		spoil_length(driver, state, request->asked);
 		break;
@@ -65,25 +77,26 @@ static uint64_t spoil_arguments(struct driver *driver, uint64_t *state, const st
 	case FLAWS:
 		break;
 	}
-	return request->region->n;
 }
 
 /* The library's entries. */
-static uint64_t call(struct driver *driver, enum asked asked, uint64_t n, uint64_t step)
+static uint64_t call(struct driver *driver, enum asked asked, const struct told *told)
 {
+	const uint64_t n = told->n, size = told->size;
+
 #define LENT(buffer) lent_bytes(&driver->lent[buffer]), driver->lent[buffer].len
 	switch (asked) {
 	case UPDATE_PLAN:
-		return ream_update_plan(n, LENT(IMAGE), LENT(STATUS), LENT(WANTED), LENT(OUT));
+		return ream_update_plan(n, size, LENT(IMAGE), LENT(STATUS), LENT(WANTED), LENT(OUT));
 	case RECOVERY_PLAN:
-		return ream_recovery_plan(n, LENT(IMAGE), LENT(STATUS), LENT(OUT));
+		return ream_recovery_plan(n, size, LENT(IMAGE), LENT(STATUS), LENT(OUT));
 	case UPDATE_PAGE:
-		return ream_update_page(n, LENT(IMAGE), LENT(STATUS), LENT(WANTED), step, LENT(OUT));
+		return ream_update_page(n, size, LENT(IMAGE), LENT(STATUS), LENT(WANTED), told->step, LENT(OUT));
 	case RECOVERY_PAGE:
 	case ASKS:
 		break;
 	}
-	return ream_recovery_page(n, LENT(IMAGE), LENT(STATUS), step, LENT(OUT));
+	return ream_recovery_page(n, size, LENT(IMAGE), LENT(STATUS), told->step, LENT(OUT));
 #undef LENT
 }
 
@@ -102,13 +115,14 @@ static void check(struct driver *driver, bool refused)
 
 uint64_t driver_ask(struct driver *driver, uint64_t *state, const struct request *request)
 {
-	uint64_t n, answer;
+	struct told told = { request->region->n, request->region->size, request->step };
+	uint64_t answer;
 
 	lend_all(driver, state, request);
-	n = spoil_arguments(driver, state, request);
+	spoil_arguments(driver, state, request, &told);
 	for (unsigned i = 0; i < BUFFERS; i++)
 		memcpy(driver->before[i], lent_bytes(&driver->lent[i]), driver->lent[i].held);
-	answer = call(driver, request->asked, n, request->step);
+	answer = call(driver, request->asked, &told);
 	check(driver, ream_refusal(answer) != REAM_OK);
 	return answer;
 }

@@ -14,7 +14,7 @@
 enum asked { UPDATE_PLAN, RECOVERY_PLAN, UPDATE_PAGE, RECOVERY_PAGE, ASKS };
 
 /* What is wrong with the arguments of a call. */
-enum flaw { NO_FLAW, FLAW_N, FLAW_LENGTH, FLAW_STATUS, FLAWS };
+enum flaw { NO_FLAW, FLAW_N, FLAW_SIZE, FLAW_LENGTH, FLAW_STATUS, FLAWS };
 
 /* The buffers of a call. A recovery's has no wanted bitmap. */
 enum buffer { IMAGE, STATUS, WANTED, OUT, BUFFERS };
@@ -29,7 +29,7 @@ struct request {
 
 struct driver {
 	struct lent lent[BUFFERS];
-	uint8_t before[BUFFERS][REGION_BLOCKS * MOST_PAGES * PAGE_BYTES];	/* as they were lent */
+	uint8_t before[BUFFERS][MOST_REGION_BLOCKS * MOST_PAGES * PAGE_BYTES];	/* as they were lent */
 	uint8_t turn;
 	const char *broken;
 };

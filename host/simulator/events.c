@@ -84,7 +84,7 @@ static enum tally_row recovery_case(const struct region *region)
 {
 	bool good[KINDS] = { false, false };
 
-	for (unsigned block = 0; block < REGION_BLOCKS; block++)
+	for (unsigned block = 0; block < region->size; block++)
 		for (unsigned kind = 0; kind < KINDS; kind++)
 			good[kind] |= region_good(region, block, (enum kind)kind);
 	if (!good[MIRROR])
@@ -143,7 +143,8 @@ static enum asked draw_asked(struct history *history)
 void refuse_arguments(struct history *history)
 {
 	static const enum tally_row rows[] = {
-		[FLAW_N] = REFUSED_N, [FLAW_LENGTH] = REFUSED_LENGTH, [FLAW_STATUS] = REFUSED_STATUS,
+		[FLAW_N] = REFUSED_N, [FLAW_SIZE] = REFUSED_SIZE, [FLAW_LENGTH] = REFUSED_LENGTH,
+		[FLAW_STATUS] = REFUSED_STATUS,
 	};
 	const enum flaw flaw = (enum flaw)(1 + draw_below(&history->state, FLAWS - 1));
 	const enum asked asked = draw_asked(history);

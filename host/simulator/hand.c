@@ -42,7 +42,7 @@ struct ream_step told_step(const struct hand *hand, unsigned i)
 
 unsigned region_block(const struct history *history, const struct ream_step *step)
 {
-	return (unsigned)(step->block - (history->region.n - REGION_BLOCKS));
+	return (unsigned)(step->block - region_first(&history->region));
 }
 
 void close_hand(struct history *history)

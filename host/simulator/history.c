@@ -3,6 +3,7 @@
 
 #include <inttypes.h>
 #include <stdio.h>
+#include <string.h>
 
 #include "draw.h"
 #include "events.h"
@@ -75,12 +76,18 @@ static void note_start(struct history *history, const struct start *start)
 		[FILLED_BAD] = "bad", [FILLED_UNREADABLE] = "unreadable", [FILLED_HALF_PRIMARY] = "half a primary",
 		[FILLED_HALF_MIRROR] = "half a mirror",
 	};
-	const uint64_t first = start->n - REGION_BLOCKS;
+	const uint64_t first = region_first(&history->region);
+	char blocks[EVENT_LEN] = "";
 
+	for (unsigned block = 0; block < start->size; block++) {
+		const size_t len = strlen(blocks);
+
+		snprintf(blocks + len, sizeof(blocks) - len, "%s%s", block == 0 ? "" : ", ",
+			 words[start->filling[block]]);
+	}
 	note(history, "start: N = %" PRIu64 ", version %u, primary in block %" PRIu64 ", mirror in %" PRIu64
-	     "; blocks from %" PRIu64 " on: %s, %s, %s, %s", start->n, start->version, first + start->block[PRIMARY],
-	     first + start->block[MIRROR], first, words[start->filling[0]], words[start->filling[1]],
-	     words[start->filling[2]], words[start->filling[3]]);
+	     "; blocks from %" PRIu64 " on: %s", start->n, start->version, first + start->block[PRIMARY],
+	     first + start->block[MIRROR], first, blocks);
 }
 
 static void count_start(struct history *history, const struct start *start)
@@ -91,13 +98,14 @@ static void count_start(struct history *history, const struct start *start)
 		[FILLED_HALF_MIRROR] = START_HALF_MIRROR,
 	};
 
+	count(history, START_SIZE + start->size - FEWEST_REGION_BLOCKS);
 	if (start->version == 0)
 		count(history, START_VERSION_0);
 	if (start->version == 254)
 		count(history, START_VERSION_254);
 	if (start->version == 255)
 		count(history, START_VERSION_255);
-	for (unsigned block = 0; block < REGION_BLOCKS; block++)
+	for (unsigned block = 0; block < start->size; block++)
 		if (start->filling[block] != FILLED_PAIR)
 			count(history, rows[start->filling[block]]);
 }

@@ -19,7 +19,7 @@
 
 enum {
 	MOST_EVENTS = 160,
-	EVENT_LEN = 160,	/* the room for the text of an event */
+	EVENT_LEN = 240,	/* the room for the text of an event */
 };
 
 /* What plan is in hand. One that has no step left is in hand no more. */

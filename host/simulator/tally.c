@@ -5,6 +5,10 @@
 #include <stdio.h>
 
 static const char *const names[CUT_IN_UPDATE] = {
+	[START_SIZE] = "start with a region of 4 blocks",
+	[START_SIZE + 1] = "start with a region of 5 blocks",
+	[START_SIZE + 2] = "start with a region of 6 blocks",
+	[START_SIZE + 3] = "start with a region of 7 blocks",
 	[START_VERSION_0] = "start at version 0",
 	[START_VERSION_254] = "start at version 254",
 	[START_VERSION_255] = "start at version 255",
@@ -31,6 +35,7 @@ static const char *const names[CUT_IN_UPDATE] = {
 	[REFUSED_UPDATE_PAGE] = "refused call: update page",
 	[REFUSED_RECOVERY_PAGE] = "refused call: recovery page",
 	[REFUSED_N] = "refused for N",
+	[REFUSED_SIZE] = "refused for the region's size",
 	[REFUSED_LENGTH] = "refused for a length",
 	[REFUSED_STATUS] = "refused for a status byte",
 	[REFUSED_ERASE] = "refused for the step of an erase",

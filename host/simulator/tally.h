@@ -16,8 +16,10 @@ enum {
 };
 
 enum tally_row {
-	/* the start: its version, and what stands in the blocks beside the pair */
-	START_VERSION_0,
+	/* the start: the blocks of its region, from the fewest on, its version, and what stands in the blocks beside
+	 * the pair */
+	START_SIZE,
+	START_VERSION_0 = START_SIZE + MOST_REGION_BLOCKS - FEWEST_REGION_BLOCKS + 1,
 	START_VERSION_254,
 	START_VERSION_255,
 	START_BLANK,
@@ -51,6 +53,7 @@ enum tally_row {
 	REFUSED_UPDATE_PAGE,
 	REFUSED_RECOVERY_PAGE,
 	REFUSED_N,
+	REFUSED_SIZE,
 	REFUSED_LENGTH,
 	REFUSED_STATUS,
 	REFUSED_ERASE,

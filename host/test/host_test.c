@@ -25,6 +25,7 @@ static void run(struct test *test, struct scene *scene)
 	test_page_read(test);
 	test_first_bitmap(test, scene);
 	test_pair(test, scene);
+	test_sizes(test, scene);
 	test_update(test, scene);
 	test_steps(test, scene);
 	test_drawn(test, scene);

@@ -46,7 +46,7 @@ static void outcome_of_both(struct outcome *outcome, struct scene *scene, const 
 	const enum kind older = newer == PRIMARY ? MIRROR : PRIMARY;
 
 	outcome->plan.version = cast->version[newer];
-	memcpy(scene->made, scene->table[newer], (size_t)cast->n / 4);
+	memcpy(scene->made, scene->table[newer], (size_t)cast->chip.n / 4);
 	if (ahead == 0 && cast->equal)
 		return;
 	outcome->reading = REAM_NOT_SETTLED;
@@ -58,7 +58,7 @@ static void outcome_of_both(struct outcome *outcome, struct scene *scene, const 
 		outcome->plan.version++;
 		plan_add(&outcome->plan, PRIMARY, outcome->block[PRIMARY]);
 		plan_add(&outcome->plan, MIRROR, outcome->block[MIRROR]);
-		for (size_t i = 0; i < cast->n / 4; i++)
+		for (size_t i = 0; i < cast->chip.n / 4; i++)
 			scene->made[i] = scene->table[PRIMARY][i] & scene->table[MIRROR][i];
 	}
 }
@@ -66,19 +66,20 @@ static void outcome_of_both(struct outcome *outcome, struct scene *scene, const 
 /* One kind alone good. The last block that will do is the highest. */
 static void outcome_of_one(struct outcome *outcome, struct scene *scene, const struct cast *cast, enum kind good)
 {
-	unsigned target = REGION_BLOCKS;
+	const unsigned size = cast->chip.size;
+	unsigned target = size;
 
 	outcome->reading = REAM_NOT_SETTLED;
-	for (unsigned block = 0; block < REGION_BLOCKS; block++)
+	for (unsigned block = 0; block < size; block++)
 		if (block != outcome->block[good] && cast->role[block] != MARKED)
 			target = block;
-	if (target == REGION_BLOCKS) {
+	if (target == size) {
 		outcome->recovery = REAM_NO_TARGET;
 		return;
 	}
 	outcome->plan.version = cast->version[good];
 	plan_add(&outcome->plan, good == PRIMARY ? MIRROR : PRIMARY, target);
-	memcpy(scene->made, scene->table[good], (size_t)cast->n / 4);
+	memcpy(scene->made, scene->table[good], (size_t)cast->chip.n / 4);
 }
 
 static struct outcome outcome_of(struct scene *scene, const struct cast *cast)
@@ -86,7 +87,7 @@ static struct outcome outcome_of(struct scene *scene, const struct cast *cast)
 	struct outcome outcome = { REAM_OK, REAM_OK, { 0, 0 }, { 0, 0, { PRIMARY, PRIMARY }, { 0, 0 } } };
 	unsigned good[KINDS] = { 0, 0 };
 
-	for (unsigned block = 0; block < REGION_BLOCKS; block++) {
+	for (unsigned block = 0; block < cast->chip.size; block++) {
 		for (unsigned kind = 0; kind < KINDS; kind++) {
 			if (is_good(cast->role[block], (enum kind)kind)) {
 				good[kind]++;
@@ -120,10 +121,10 @@ static struct plan update_of(struct scene *scene, const struct cast *cast, const
 	const uint8_t *old = scene->table[PRIMARY];
 	struct plan plan = outcome->plan;
 
-	memcpy(scene->made, old, (size_t)cast->n / 4);
-	if (!update_changes(old, scene->wanted, cast->n))
+	memcpy(scene->made, old, (size_t)cast->chip.n / 4);
+	if (!update_changes(old, scene->wanted, cast->chip.n))
 		return plan;
-	for (uint64_t block = 0; block < cast->n; block++)
+	for (uint64_t block = 0; block < cast->chip.n; block++)
 		if (ream_entry_get(old, block) == REAM_ENTRY_GOOD)
 			ream_entry_set(scene->made, block, ream_entry_get(scene->wanted, block));
 	plan.version++;
@@ -135,15 +136,17 @@ static struct plan update_of(struct scene *scene, const struct cast *cast, const
 /* ---- expectations */
 
 /* The last call read a settled pair. */
-static void expect_table(struct test *test, uint64_t n, uint8_t version, const unsigned *block,
+static void expect_table(struct test *test, struct chip chip, uint8_t version, const unsigned *block,
 			 const uint8_t *table)
 {
+	const uint64_t first = chip.n - chip.size;
+
 	expect(test, ream_refusal(test->answer) == REAM_OK, "a settled pair is read");
 	expect(test, ream_version(test->answer) == version, "the version");
-	expect(test, ream_primary_block(test->answer) == n - 4 + block[PRIMARY], "the primary's chip block");
-	expect(test, ream_mirror_block(test->answer) == n - 4 + block[MIRROR], "the mirror's chip block");
+	expect(test, ream_primary_block(test->answer) == first + block[PRIMARY], "the primary's chip block");
+	expect(test, ream_mirror_block(test->answer) == first + block[MIRROR], "the mirror's chip block");
 	expect(test, test->answer >> 48 == 0, "nothing in the bits above");
-	expect(test, memcmp(call_left(test, 2), table, (size_t)n / 4) == 0, "the table");
+	expect(test, memcmp(call_left(test, 2), table, (size_t)chip.n / 4) == 0, "the table");
 }
 
 static void expect_step(struct test *test, const uint8_t *bytes, unsigned kind, uint64_t block, unsigned page)
@@ -169,7 +172,7 @@ static void expect_plan(struct test *test, const struct region *region, const st
 	expect(test, ream_step_count(test->answer) == count, "0, P + 1 or 2P + 2 steps");
 	expect(test, test->answer >> 24 == 0, "nothing in the bits above");
 	for (unsigned copy = 0; copy < plan->copies; copy++) {
-		const uint64_t block = region->n - 4 + plan->block[copy];
+		const uint64_t block = region_first(region) + plan->block[copy];
 
 		expect_step(test, at, REAM_ERASE, block, 0);
 		at += REAM_STEP_SIZE;
@@ -256,7 +259,7 @@ static struct plan expect_outcome(struct test *test, struct scene *scene, const 
 
 	scene_call(test, TABLE_READ, scene);
 	if (outcome->reading == REAM_OK)
-		expect_table(test, cast->n, plan.version, outcome->block, scene->table[PRIMARY]);
+		expect_table(test, cast->chip, plan.version, outcome->block, scene->table[PRIMARY]);
 	else
 		expect_answer(test, outcome->reading, "the refusal of reading");
 
@@ -290,7 +293,7 @@ void expect_cast_carried_out(struct test *test, struct scene *scene, const struc
 	}
 	plan.copies = 0;
 	scene_call(test, TABLE_READ, scene);
-	expect_table(test, cast->n, plan.version, outcome.block, scene->made);
+	expect_table(test, cast->chip, plan.version, outcome.block, scene->made);
 	scene_call(test, RECOVERY_PLAN, scene);
 	expect_plan(test, &scene->region, &plan);
 }

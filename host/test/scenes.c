@@ -6,18 +6,36 @@
 #include "draw.h"
 #include "reamsickle.h"
 
-const uint64_t sizes[SIZES] = {
-	8, 12, 16, 1024, 8188, 8192, 8196, 16384, 16388, 20000, 24576, 24580, 32760, 32764, 32768,
+bool is_chip(uint64_t n, uint64_t size)
+{
+	return n % 4 == 0 && n >= 8 && n <= 32768 && size >= 4 && size <= 7 && n >= 2 * size;
+}
+
+const struct chip chips[CHIPS] = {
+	{ 8, 4 }, { 12, 4 }, { 12, 5 }, { 12, 6 }, { 16, 4 }, { 16, 7 }, { 1024, 4 }, { 1024, 5 }, { 8188, 6 },
+	{ 8192, 4 }, { 8192, 7 }, { 8196, 4 }, { 8196, 5 }, { 16384, 4 }, { 16384, 6 }, { 16388, 7 }, { 20000, 4 },
+	{ 24576, 5 }, { 24580, 4 }, { 24580, 6 }, { 32760, 4 }, { 32764, 5 }, { 32768, 4 }, { 32768, 7 },
 };
 
-const uint64_t no_sizes[NO_SIZES] = {
+const struct chip shapes[SHAPES] = {
+	{ 8, 4 }, { 12, 5 }, { 12, 6 }, { 16, 7 },
+	{ 8196, 4 }, { 8196, 5 }, { 8196, 6 }, { 8196, 7 },
+	{ 24576, 4 }, { 24576, 5 }, { 24576, 6 }, { 24576, 7 },
+	{ 32764, 4 }, { 32764, 5 }, { 32764, 6 }, { 32764, 7 },
+};
+
+const uint64_t no_numbers[NO_NUMBERS] = {
 	0, 1, 2, 3, 4, 5, 6, 7, 9, 10, 11, 13, 14, 15, 8190, 8191, 8193, 8194, 32765, 32766, 32767, 32769, 32770,
 	32771, 32772, 32776, 65536, 65544, 131072, UINT32_MAX, ((uint64_t)1 << 32) + 8, ((uint64_t)1 << 32) + 32768,
 	((uint64_t)1 << 34) + 8, ((uint64_t)1 << 48) + 8, ((uint64_t)1 << 62) + 8, ((uint64_t)1 << 63) + 8,
 	UINT64_MAX - 7, UINT64_MAX - 3, UINT64_MAX,
 };
 
-const uint64_t size_by_pages[MOST_PAGES] = { 8, 8196, 24576, 32764 };
+const uint64_t no_sizes[NO_SIZES] = {
+	0, 1, 2, 3, 8, 9, 12, 15, 16, 32, 256 + 4, 65536 + 4, UINT32_MAX, ((uint64_t)1 << 32) + 4,
+	((uint64_t)1 << 32) + 7, ((uint64_t)1 << 48) + 4, ((uint64_t)1 << 63) + 4, ((uint64_t)1 << 63) + 7,
+	UINT64_MAX - 3, UINT64_MAX,
+};
 
 const enum entry_index region_entries[REGION_ENTRIES] = {
 	TABLE_READ, UPDATE_PLAN, RECOVERY_PLAN, UPDATE_PAGE, RECOVERY_PAGE,
@@ -25,25 +43,44 @@ const enum entry_index region_entries[REGION_ENTRIES] = {
 
 /* ---- casts */
 
-struct cast cast_settled(uint64_t n, unsigned primary, unsigned mirror, uint8_t version)
+struct chip drawn_shape(struct test *test, unsigned pages)
 {
-	struct cast cast = { n, { BLANK, BLANK, BLANK, BLANK }, { version, version }, true, 0, UNREADABLE };
+	return shapes[(pages - 1) * REGION_SIZES + draw_below(&test->state, REGION_SIZES)];
+}
 
+struct chip drawn_chip(struct test *test, uint64_t n)
+{
+	return (struct chip){ n, drawn_size(&test->state, n) };
+}
+
+struct cast cast_settled(struct chip chip, unsigned primary, unsigned mirror, uint8_t version)
+{
+	struct cast cast = { .chip = chip, .version = { version, version }, .equal = true, .way = UNREADABLE };
+
+	for (unsigned block = 0; block < chip.size; block++)
+		cast.role[block] = BLANK;
 	cast.role[primary] = GOOD_PRIMARY;
 	cast.role[mirror] = GOOD_MIRROR;
 	return cast;
 }
 
-struct cast cast_placed(uint64_t n, unsigned i, uint8_t version)
+unsigned placements(struct chip chip)
 {
-	const unsigned primary = i / 3, mirror = i % 3;
-
-	return cast_settled(n, primary, mirror < primary ? mirror : mirror + 1, version);
+	return chip.size * (chip.size - 1);
 }
 
-struct cast cast_troubled(uint64_t n, unsigned trouble)
+struct cast cast_placed(struct chip chip, unsigned i, uint8_t version)
 {
-	struct cast cast = cast_settled(n, 3, 1, 40);
+	const unsigned pair = i % placements(chip);
+	const unsigned primary = pair / (chip.size - 1), mirror = pair % (chip.size - 1);
+
+	return cast_settled(chip, primary, mirror < primary ? mirror : mirror + 1, version);
+}
+
+struct cast cast_troubled(struct chip chip, unsigned trouble)
+{
+	const unsigned last = chip.size - 1;
+	struct cast cast = cast_settled(chip, last, 1, 40);
 
 	switch (trouble) {
 	case 1:		/* 8: two of a kind */
@@ -57,7 +94,7 @@ struct cast cast_troubled(uint64_t n, unsigned trouble)
 		cast.version[PRIMARY] += 128;
 		break;
 	case 4:		/* 7 */
-		cast.role[3] = cast.role[1] = MARKED;
+		cast.role[last] = cast.role[1] = MARKED;
 		break;
 	case 5:		/* 9 */
 		cast.version[PRIMARY] += 128;
@@ -67,7 +104,8 @@ struct cast cast_troubled(uint64_t n, unsigned trouble)
 		cast.equal = false;
 		break;
 	case 7:		/* 10 in reading, 11 in recovery */
-		cast.role[0] = cast.role[1] = cast.role[2] = MARKED;
+		for (unsigned block = 0; block < last; block++)
+			cast.role[block] = MARKED;
 		break;
 	case 8:		/* 10 in reading, and in recovery a copy made anew: of the newer primary, .. */
 		cast.version[PRIMARY] += 127;
@@ -81,15 +119,20 @@ struct cast cast_troubled(uint64_t n, unsigned trouble)
 		cast.role[1] = BLANK;
 		break;
 	case 11:	/* .. or the mirror alone */
-		cast.role[3] = MARKED;
+		cast.role[last] = MARKED;
 		break;
 	}
 	return cast;
 }
 
+enum role drawn_role(struct test *test, enum role from)
+{
+	return (enum role)(from + draw_below(&test->state, ROLES - from));
+}
+
 void cast_draw_spoilt(struct test *test, struct cast *cast)
 {
-	const unsigned pages = ream_table_pages(cast->n);
+	const unsigned pages = ream_table_pages(cast->chip.n);
 
 	cast->page = (unsigned)draw_below(&test->state, pages);
 	cast->way = drawn_way(&test->state, pages);
@@ -172,22 +215,23 @@ static void play(struct test *test, struct scene *scene, unsigned block, const s
 void scene_rebuild(struct test *test, struct scene *scene, const struct cast *cast)
 {
 	scene->step = 1;
-	region_begin(&scene->region, cast->n);
-	for (unsigned block = 0; block < REGION_BLOCKS; block++)
+	region_begin(&scene->region, cast->chip.n, cast->chip.size);
+	for (unsigned block = 0; block < cast->chip.size; block++)
 		play(test, scene, block, cast);
 }
 
 void scene_build(struct test *test, struct scene *scene, const struct cast *cast)
 {
-	const size_t len = (size_t)cast->n / 4;
+	const uint64_t n = cast->chip.n;
+	const size_t len = (size_t)n / 4;
 
-	drawn_table(&test->state, scene->table[PRIMARY], cast->n);
+	drawn_table(&test->state, scene->table[PRIMARY], n);
 	memcpy(scene->table[MIRROR], scene->table[PRIMARY], len);
 	if (!cast->equal)
 		scene->table[MIRROR][draw_below(&test->state, len)] ^= (uint8_t)(1 << draw_below(&test->state, 8));
-	drawn_table(&test->state, scene->wanted, cast->n);
-	memset(scene->marks, 0xFF, (size_t)cast->n);
-	scene->marks[draw_below(&test->state, cast->n)] = 0;
+	drawn_table(&test->state, scene->wanted, n);
+	memset(scene->marks, 0xFF, (size_t)n);
+	scene->marks[draw_below(&test->state, n)] = 0;
 	scene_rebuild(test, scene, cast);
 }
 
@@ -218,7 +262,7 @@ void scene_set_up(struct test *test, enum entry_index index, const void *inputs)
 	const struct scene *scene = inputs;
 	const struct region *region = &scene->region;
 
-	call_begin_large(test, index, region->n);
+	call_begin_large(test, index, region->n, region->size);
 	call_lend_named(test, "marks", scene->marks, (size_t)region->n);
 	call_lend_named(test, "image", region->image, region_image_len(region));
 	call_lend_named(test, "status", region->status, region_status_len(region));

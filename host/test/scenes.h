@@ -12,49 +12,59 @@
 #include "drawn.h"
 #include "region.h"
 
-/* What a block is to be. */
+/* What a block is to be: a good copy, readable as bad, or neither. */
 enum role {
 	GOOD_PRIMARY,
 	GOOD_MIRROR,
 	MARKED_PRIMARY,		/* good too: a mark beside a signature does not count */
-	BLANK,
 	MARKED,			/* readable as bad */
-	MARKED_UNREADABLE,	/* the same with an unreadable first page: not readable as bad */
+	BLANK,
+	MARKED_UNREADABLE,	/* marked with an unreadable first page: not readable as bad */
 	MARKED_LATER,		/* marks on the pages past the first: they do not count */
 	SPOILT_PRIMARY,		/* a copy with one page spoilt */
 	SPOILT_MIRROR,
 	ROLES,
 };
 
-struct cast {
+/* A chip: its number of blocks, N, and how many of them are the region. */
+struct chip {
 	uint64_t n;
-	enum role role[REGION_BLOCKS];
+	unsigned size;
+};
+
+struct cast {
+	struct chip chip;
+	enum role role[MOST_REGION_BLOCKS];
 	uint8_t version[KINDS];
 	bool equal;		/* do both kinds hold the same table? */
 	unsigned page;		/* the page of spoilt copies that is spoilt */
 	enum way way;		/* and how */
 };
 
-/* Numbers of blocks at which something changes: the ends of the range, and P from 1 to 4. */
-enum { SIZES = 15 };
+/* Is there a chip of n blocks with a region of `size` blocks? "N a multiple of 4 from 8 to 32,768"; "the region's
+ * size, 4 to 7 blocks"; "refusal 2 outside these or with N below twice it". */
+bool is_chip(uint64_t n, uint64_t size);
 
-extern const uint64_t sizes[SIZES];
+/* Chips at which something changes: the ends of the range of N, P from 1 to 4, and the sizes of the region. */
+enum { CHIPS = 24 };
 
-/* Numbers that are no number of blocks. */
-enum { NO_SIZES = 39 };
+extern const struct chip chips[CHIPS];
 
+/* One for each P and each size of the region, sorted by P, with last pages full, almost full and almost empty. */
+enum { REGION_SIZES = MOST_REGION_BLOCKS - FEWEST_REGION_BLOCKS + 1, SHAPES = MOST_PAGES * REGION_SIZES };
+
+extern const struct chip shapes[SHAPES];
+
+/* Numbers that are no number of blocks, and such that are no size of a region. */
+enum { NO_NUMBERS = 39, NO_SIZES = 20 };
+
+extern const uint64_t no_numbers[NO_NUMBERS];
 extern const uint64_t no_sizes[NO_SIZES];
-
-/* One for each P, with last pages full, almost full and almost empty. */
-extern const uint64_t size_by_pages[MOST_PAGES];
 
 /* The entries that read a table, plan and give pages. */
 enum { REGION_ENTRIES = 5 };
 
 extern const enum entry_index region_entries[REGION_ENTRIES];
-
-/* The pairs of different blocks that primary and mirror can stand in. */
-enum { PLACEMENTS = 12 };
 
 /* Casts that are refused each in its way, and one that is not. */
 enum { TROUBLES = 12 };
@@ -69,13 +79,25 @@ struct scene {
 	uint64_t step;				/* the step whose page is asked for */
 };
 
+/* One of the chips with so many pages to a copy, drawn. */
+struct chip drawn_shape(struct test *test, unsigned pages);
+
+/* A chip of n blocks, with the size of its region drawn. */
+struct chip drawn_chip(struct test *test, uint64_t n);
+
 /* A cast of a settled pair in these blocks, the others blank. */
-struct cast cast_settled(uint64_t n, unsigned primary, unsigned mirror, uint8_t version);
+struct cast cast_settled(struct chip chip, unsigned primary, unsigned mirror, uint8_t version);
 
-/* The same in pair i of blocks. */
-struct cast cast_placed(uint64_t n, unsigned i, uint8_t version);
+/* How many pairs of different blocks there are for primary and mirror. */
+unsigned placements(struct chip chip);
 
-struct cast cast_troubled(uint64_t n, unsigned trouble);
+/* A cast of a settled pair in pair i of blocks, counted round and round. */
+struct cast cast_placed(struct chip chip, unsigned i, uint8_t version);
+
+struct cast cast_troubled(struct chip chip, unsigned trouble);
+
+/* Draws a role from this one on: from MARKED it is no good copy, from BLANK it is not readable as bad either. */
+enum role drawn_role(struct test *test, enum role from);
 
 /* Draws the page and the way of a cast's spoilt copies. */
 void cast_draw_spoilt(struct test *test, struct cast *cast);

@@ -1,6 +1,7 @@
 /*
- * Arguments that are wrong, of every entry: numbers of blocks, lengths and status bytes, each alone and all
- * together with what is wrong in a region. Refusals come exactly where they have to, in document 01's order.
+ * Arguments that are wrong, of every entry: numbers of blocks, sizes of the region, lengths and status bytes, each
+ * alone and all together with what is wrong in a region. Refusals come exactly where they have to, in document
+ * 01's order.
  */
 #include "tests.h"
 
@@ -14,25 +15,31 @@
 #include "scenes.h"
 #include "small_pages.h"
 
-static void try_size_examples(struct test *test, struct scene *scene)
+/* The first of the large chip's entries from number i on, or ENTRIES. */
+static enum entry_index large_from(unsigned i)
+{
+	while (i < ENTRIES && !has_number((enum entry_index)i, "n"))
+		i++;
+	return (enum entry_index)i;
+}
+
+static void try_chip_examples(struct test *test, struct scene *scene)
 {
 	static const uint64_t refused[3] = { 4, 10, 32772 };
 	static const unsigned pages[2] = { 1, 2 };
 
 	test->trying = "document 01's numbers of blocks";
 	for (unsigned i = 0; i < 2; i++) {
-		const struct cast cast = cast_settled(i == 0 ? 8192 : 8196, 0, 1, 9);
+		const struct cast cast = cast_settled((struct chip){ i == 0 ? 8192 : 8196, 4 }, 0, 1, 9);
 
-		expect(test, ream_table_pages(cast.n) == pages[i], "8,192 blocks fill one page, 8,196 two");
+		expect(test, ream_table_pages(cast.chip.n) == pages[i], "8,192 blocks fill one page, 8,196 two");
 		scene_build_changing(test, scene, &cast);
 		scene_call(test, UPDATE_PLAN, scene);
 		expect_answer(test, (uint64_t)10 << 8 | (2 * pages[i] + 2) << 16, "an update has 2P + 2 steps");
 	}
 	for (unsigned i = 0; i < 3; i++) {
-		for (unsigned k = 0; k < ENTRIES; k++) {
-			if (!has_number((enum entry_index)k, "n"))
-				continue;
-			scene_set_up(test, (enum entry_index)k, scene);
+		for (enum entry_index index = large_from(0); index < ENTRIES; index = large_from(index + 1)) {
+			scene_set_up(test, index, scene);
 			test->call.number[0] = refused[i];
 			call_compare(test);
 			expect_answer(test, REAM_RANGE, "4, 10 and 32,772 blocks are refused");
@@ -40,50 +47,99 @@ static void try_size_examples(struct test *test, struct scene *scene)
 	}
 }
 
-/* ---- numbers of blocks */
+/* ---- numbers of blocks, and sizes of the region */
 
-static void try_numbers_of_blocks(struct test *test, struct scene *scene)
+/* Makes the call that is set up with these numbers. Where they are no chip's it is refused with 2, whatever the
+ * lengths are; otherwise with `else_refusal`, or not at all. */
+static void expect_chip_judged(struct test *test, uint64_t n, uint64_t size, unsigned else_refusal)
 {
-	for (unsigned i = 0; i < ENTRIES; i++) {
-		const enum entry_index index = (enum entry_index)i;
+	test->call.number[0] = n;
+	test->call.number[1] = size;
+	call_compare(test);
+	if (is_chip(n, size))
+		expect_answer(test, else_refusal, "a chip's number of blocks and size are taken");
+	else
+		expect_answer(test, REAM_RANGE, "what is no chip's number of blocks and size is refused first");
+}
 
-		if (!has_number(index, "n"))
-			continue;
-		test->trying = "numbers that are no number of blocks, lengths of another number";
-		for (unsigned size = 0; size < SIZES; size++) {
-			const struct cast cast = cast_settled(sizes[size], 2, 3, 4);
+/* With the lengths that go with these numbers. All pages read well, and there is no copy. */
+static void try_own_lengths(struct test *test, enum entry_index index, uint64_t n, uint64_t size)
+{
+	call_begin_large(test, index, n, size);
+	for (unsigned i = 0; i < entries[index].buffers; i++)
+		if (entries[index].buffer[i].direction == IN)
+			memset(test->call.bytes[i], 0, lent_held(test->call.len[i]));
+	expect_chip_judged(test, n, size, has_buffer(index, "image") ? REAM_NO_COPY : REAM_OK);
+}
 
-			scene_build(test, scene, &cast);
-			for (unsigned k = 0; k < NO_SIZES; k++) {
+/* With no bytes at all. */
+static void try_no_lengths(struct test *test, enum entry_index index, uint64_t n, uint64_t size)
+{
+	call_begin_large(test, index, n, size);
+	memset(test->call.len, 0, sizeof(test->call.len));
+	expect_chip_judged(test, n, size, REAM_LENGTH);
+}
+
+/* Every number of blocks worth trying, with every size. */
+static void try_chips(struct test *test)
+{
+	static const uint64_t numbers[] = {
+		8, 12, 16, 20, 24, 1024, 8192, 8196, 16384, 16388, 24576, 24580, 32764, 32768,
+		0, 4, 6, 10, 11, 13, 14, 15, 18, 32766, 32772, ((uint64_t)1 << 32) + 8, ((uint64_t)1 << 32) + 16,
+	};
+
+	test->trying = "sizes of the region";
+	for (enum entry_index index = large_from(0); index < ENTRIES; index = large_from(index + 1)) {
+		for (unsigned i = 0; i < sizeof(numbers) / sizeof(numbers[0]); i++) {
+			for (unsigned k = 0; k < REGION_SIZES + NO_SIZES; k++) {
+				const uint64_t size = k < REGION_SIZES ? FEWEST_REGION_BLOCKS + k :
+						      no_sizes[k - REGION_SIZES];
+
+				if (left_out(test))
+					continue;
+				try_own_lengths(test, index, numbers[i], size);
+				try_no_lengths(test, index, numbers[i], size);
+			}
+		}
+	}
+}
+
+/* Wrong numbers beside lengths, bytes and steps that are right for a chip. */
+static void try_wrong_numbers(struct test *test, struct scene *scene)
+{
+	test->trying = "no number of blocks, or no size of a region, with lengths of a chip";
+	for (unsigned chip = 0; chip < CHIPS; chip++) {
+		const struct cast cast = cast_settled(chips[chip], 2, 3, 4);
+
+		scene_build(test, scene, &cast);
+		for (enum entry_index index = large_from(0); index < ENTRIES; index = large_from(index + 1)) {
+			for (unsigned i = 0; i < NO_NUMBERS + NO_SIZES; i++) {
 				if (left_out(test))
 					continue;
 				scene_set_up(test, index, scene);
-				test->call.number[0] = no_sizes[k];
+				if (i < NO_NUMBERS)
+					test->call.number[0] = no_numbers[i];
+				else
+					test->call.number[1] = no_sizes[i - NO_NUMBERS];
 				call_compare(test);
-				expect_answer(test, REAM_RANGE, "no number of blocks is refused");
+				expect_answer(test, REAM_RANGE, "it is refused");
 			}
 		}
-		test->trying = "numbers that are no number of blocks, with their own lengths";
-		for (unsigned k = 0; k < NO_SIZES; k++) {
-			call_begin_large(test, index, no_sizes[k]);
-			call_compare(test);
-			expect_answer(test, REAM_RANGE, "no number of blocks is refused");
-		}
-		/* all up to 64, those about a multiple of 1,024, and some between. All pages read well; where a page
-		 * is asked for there is no copy, so that the step's number is not looked at. */
-		test->trying = "numbers of blocks from 0 on";
+	}
+}
+
+/* All up to 64, those about a multiple of 1,024, and some between. */
+static void try_numbers_of_blocks(struct test *test)
+{
+	test->trying = "numbers of blocks from 0 on";
+	for (enum entry_index index = large_from(0); index < ENTRIES; index = large_from(index + 1)) {
 		for (uint64_t n = 0; n <= 33000; n++) {
 			if ((n > 64 && n % 1024 > 8 && n % 13 != 0) || left_out(test))
 				continue;
-			call_begin_large(test, index, n);
-			if (has_buffer(index, "status"))
-				memset(test->call.bytes[1], 0, test->call.len[1]);
-			if (gives_page(index))
-				memset(test->call.bytes[0], 0, test->call.len[0]);
-			call_compare(test);
-			expect(test, (ream_refusal(test->answer) == REAM_RANGE) == (n % 4 != 0 || n < 8 || n > 32768),
-			       "refusal 2 comes exactly with no number of blocks");
+			try_own_lengths(test, index, n, 3 + draw_below(&test->state, 6));
 		}
+		for (unsigned i = 0; i < NO_NUMBERS; i++)
+			try_own_lengths(test, index, no_numbers[i], 4 + draw_below(&test->state, 4));
 	}
 }
 
@@ -109,9 +165,9 @@ static void try_page_lengths(struct test *test)
 }
 
 /* A cast on which an entry has something to answer: of a recovery's pages there is none in a settled pair. */
-static struct cast cast_answered(uint64_t n, enum entry_index index)
+static struct cast cast_answered(struct chip chip, enum entry_index index)
 {
-	struct cast cast = cast_settled(n, 0, 3, 77);
+	struct cast cast = cast_settled(chip, 0, 3, 77);
 
 	if (index == RECOVERY_PAGE)
 		cast.version[PRIMARY]++;
@@ -120,15 +176,12 @@ static struct cast cast_answered(uint64_t n, enum entry_index index)
 
 static void try_region_lengths(struct test *test, struct scene *scene)
 {
-	static const uint64_t n[] = { 8, 16388 };
+	static const struct chip tried[] = { { 8, 4 }, { 16, 7 }, { 16388, 5 } };
 
-	for (unsigned size = 0; size < sizeof(n) / sizeof(n[0]); size++) {
-		for (unsigned i = 0; i < ENTRIES; i++) {
-			const enum entry_index index = (enum entry_index)i;
-			struct cast cast = cast_answered(n[size], index);
+	for (unsigned i = 0; i < sizeof(tried) / sizeof(tried[0]); i++) {
+		for (enum entry_index index = large_from(0); index < ENTRIES; index = large_from(index + 1)) {
+			struct cast cast = cast_answered(tried[i], index);
 
-			if (!has_number(index, "n"))
-				continue;
 			test->trying = "lengths, nothing else wrong";
 			scene_build_changing(test, scene, &cast);
 			scene_call(test, index, scene);
@@ -137,46 +190,49 @@ static void try_region_lengths(struct test *test, struct scene *scene)
 			test->trying = "lengths, all else wrong too";
 			cast.equal = false;
 			scene_build(test, scene, &cast);
-			scene->region.status[size] = 2;
+			scene->region.status[i] = 2;
 			scene->step = UINT64_MAX;
 			try_lengths(test, index, scene_set_up, scene);
 		}
 	}
 }
 
-/* The refusal of a call that is told n blocks and lent the settled region of a chip of `lent`. A recovery is
- * lent no buffer of N/4 bytes, so the same P is enough; and of a settled pair it has no page. */
-static unsigned refusal_across(enum entry_index index, uint64_t n, uint64_t lent)
+/* Are the lengths that go with one chip those that go with another? Those of a region's pages can be: four blocks
+ * of three pages are as many as six of two. */
+static bool same_lengths(enum entry_index index, struct chip left, struct chip right)
 {
-	const bool recovers = index == RECOVERY_PLAN || index == RECOVERY_PAGE;
+	const bool same_pages = left.size * ream_table_pages(left.n) == right.size * ream_table_pages(right.n);
+	const bool takes_bitmap = has_buffer(index, "bitmap") || has_buffer(index, "wanted");
 
-	if (n != lent && !(recovers && ream_table_pages(n) == ream_table_pages(lent)))
-		return REAM_LENGTH;
-	return index == RECOVERY_PAGE ? REAM_RANGE : REAM_OK;
+	return (same_pages || !has_buffer(index, "image")) && (left.n == right.n || !takes_bitmap);
 }
 
-/* The lengths that go with another number of blocks. */
-static void try_lengths_of_other_sizes(struct test *test, struct scene *scene)
+/* A call that is told one chip and lent the settled region of another, with its lengths. */
+static void expect_judged_across(struct test *test, const struct scene *scene, enum entry_index index,
+				 struct chip told, struct chip lent)
 {
-	test->trying = "lengths of another number of blocks";
-	for (unsigned size = 0; size < SIZES; size++) {
-		const struct cast cast = cast_settled(sizes[size], 2, 3, 4);
+	scene_set_up(test, index, scene);
+	test->call.number[0] = told.n;
+	test->call.number[1] = told.size;
+	call_compare(test);
+	expect(test, (ream_refusal(test->answer) == REAM_LENGTH) == !same_lengths(index, told, lent),
+	       "refusal 1 comes exactly with another chip's lengths");
+	if (told.size == lent.size && same_lengths(index, told, lent))
+		expect(test, ream_refusal(test->answer) == (index == RECOVERY_PAGE ? REAM_RANGE : REAM_OK),
+		       "a settled pair is taken, and has no page for a recovery");
+}
+
+/* The lengths that go with another chip. */
+static void try_lengths_of_other_chips(struct test *test, struct scene *scene)
+{
+	test->trying = "lengths of another chip";
+	for (unsigned lent = 0; lent < CHIPS; lent++) {
+		const struct cast cast = cast_settled(chips[lent], 2, 3, 4);
 
 		scene_build_changing(test, scene, &cast);
-		for (unsigned other = 0; other < SIZES; other++) {
-			for (unsigned i = 0; i < ENTRIES; i++) {
-				const enum entry_index index = (enum entry_index)i;
-
-				if (!has_number(index, "n"))
-					continue;
-				scene_set_up(test, index, scene);
-				test->call.number[0] = sizes[other];
-				call_compare(test);
-				expect(test, ream_refusal(test->answer) ==
-				       refusal_across(index, sizes[other], sizes[size]),
-				       "another number's lengths are refused, and its own are not");
-			}
-		}
+		for (unsigned told = 0; told < CHIPS; told++)
+			for (enum entry_index index = large_from(0); index < ENTRIES; index = large_from(index + 1))
+				expect_judged_across(test, scene, index, chips[told], chips[lent]);
 	}
 }
 
@@ -199,8 +255,8 @@ static void try_status_bytes(struct test *test, struct scene *scene)
 	static const uint8_t bytes[] = { 2, 3, 16, 127, 128, 129, 254, 255 };
 
 	test->trying = "status bytes at each place";
-	for (unsigned size = 0; size < SIZES; size++) {
-		const struct cast cast = cast_placed(sizes[size], size % PLACEMENTS, 8);
+	for (unsigned chip = 0; chip < CHIPS; chip++) {
+		const struct cast cast = cast_placed(chips[chip], chip, 8);
 
 		scene_build(test, scene, &cast);
 		for (unsigned place = 0; place < region_status_len(&scene->region); place++)
@@ -210,30 +266,31 @@ static void try_status_bytes(struct test *test, struct scene *scene)
 
 	test->trying = "all status bytes";
 	for (unsigned byte = 2; byte < 256; byte++)
-		expect_status_refused(test, scene, byte % 16, (uint8_t)byte);
+		expect_status_refused(test, scene, byte % region_status_len(&scene->region), (uint8_t)byte);
 }
 
 /* ---- the order of the refusals */
 
-/* A call on a troubled region with a wrong N, a wrong length (of buffer `wrong`, if there is such a one) and
- * a wrong status byte, each or not. Where a page is asked for, the step is anything. */
-static void try_ranks(struct test *test, struct scene *scene, enum entry_index index, bool wrong_n,
+/* A call on a troubled region with a wrong N or size, a wrong length (of buffer `wrong`, if there is such a one)
+ * and a wrong status byte, each or not. Where a page is asked for, the step is anything. */
+static void try_ranks(struct test *test, struct scene *scene, enum entry_index index, bool wrong_chip,
 		      unsigned wrong, bool wrong_status)
 {
 	const unsigned place = (unsigned)draw_below(&test->state, region_status_len(&scene->region));
 
 	scene_set_up(test, index, scene);
-	if (wrong_n)
+	if (wrong_chip && draw_below(&test->state, 2) == 0)
 		test->call.number[0] += 1 + draw_below(&test->state, 3);
+	else if (wrong_chip)
+		test->call.number[1] = no_sizes[draw_below(&test->state, NO_SIZES)];
 	if (wrong < entries[index].buffers)
 		test->call.len[wrong] -= 1;
 	if (wrong_status)
 		test->call.bytes[1][place] = 2;
-	if (gives_page(index))
-		test->call.number[1] = draw(&test->state) >> draw_below(&test->state, 64);
+	call_set_named(test, "step", draw(&test->state) >> draw_below(&test->state, 64));
 	call_compare(test);
-	if (wrong_n)
-		expect_answer(test, REAM_RANGE, "N is judged first");
+	if (wrong_chip)
+		expect_answer(test, REAM_RANGE, "N and the region's size are judged first");
 	else if (wrong < entries[index].buffers)
 		expect_answer(test, REAM_LENGTH, "then the lengths");
 	else if (wrong_status)
@@ -243,9 +300,9 @@ static void try_ranks(struct test *test, struct scene *scene, enum entry_index i
 static void try_order(struct test *test, struct scene *scene)
 {
 	test->trying = "all faults with all others";
-	for (unsigned p = 0; p < MOST_PAGES; p++) {
+	for (unsigned shape = 0; shape < SHAPES; shape++) {
 		for (unsigned trouble = 0; trouble < TROUBLES; trouble++) {
-			const struct cast cast = cast_troubled(size_by_pages[p], trouble);
+			const struct cast cast = cast_troubled(shapes[shape], trouble);
 
 			scene_build(test, scene, &cast);
 			for (unsigned i = 0; i < REGION_ENTRIES; i++) {
@@ -262,11 +319,13 @@ static void try_order(struct test *test, struct scene *scene)
 
 void test_arguments(struct test *test, struct scene *scene)
 {
-	try_size_examples(test, scene);
-	try_numbers_of_blocks(test, scene);
+	try_chip_examples(test, scene);
+	try_chips(test);
+	try_wrong_numbers(test, scene);
+	try_numbers_of_blocks(test);
 	try_page_lengths(test);
 	try_region_lengths(test, scene);
-	try_lengths_of_other_sizes(test, scene);
+	try_lengths_of_other_chips(test, scene);
 	try_status_bytes(test, scene);
 	try_order(test, scene);
 }

@@ -49,18 +49,20 @@ static void try_drawn_regions(struct test *test, struct scene *scene)
 {
 	test->trying = "drawn regions";
 	for (unsigned i = 0; i < 12000; i++) {
-		struct cast cast = cast_settled(size_by_pages[i % MOST_PAGES], 0, 1, 0);
+		struct cast cast;
 
 		if (left_out(test))
 			continue;
-		cast.equal = i % 2 == 0;
+		cast = cast_settled(shapes[draw_below(&test->state, SHAPES)], 0, 1, 0);
+		cast.equal = draw_below(&test->state, 2) == 0;
 		scene_build(test, scene, &cast);
-		for (unsigned block = 0; block < REGION_BLOCKS; block++) {
+		for (unsigned block = 0; block < cast.chip.size; block++) {
 			const enum kind kind = (enum kind)draw_below(&test->state, KINDS);
 
 			for (unsigned page = 0; page < scene->region.pages; page++)
 				draw_page(test, scene, block, page, kind);
-			if (draw_below(&test->state, 3) == 0)
+			/* so often that a wider region has about as many good copies as one of four blocks */
+			if (draw_below(&test->state, 3 * cast.chip.size) >= 8)
 				region_oob(&scene->region, block, 0)[SIGNATURE] ^= 0x80;
 		}
 		scene->step = draw_below(&test->state, 11);
@@ -72,7 +74,7 @@ static void try_drawn_regions(struct test *test, struct scene *scene)
 	for (unsigned i = 0; i < 200; i++) {
 		if (left_out(test))
 			continue;
-		region_begin(&scene->region, sizes[i % SIZES]);
+		region_begin(&scene->region, chips[i % CHIPS].n, chips[i % CHIPS].size);
 		draw_bytes(&test->state, scene->region.image, region_image_len(&scene->region));
 		for (unsigned k = 0; k < REGION_ENTRIES; k++) {
 			scene_call(test, region_entries[k], scene);

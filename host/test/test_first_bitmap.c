@@ -7,11 +7,13 @@
 #include "reamsickle.h"
 #include "scenes.h"
 
-static void expect_first_bitmap(struct test *test, struct scene *scene, uint64_t n)
+static void expect_first_bitmap(struct test *test, struct scene *scene, struct chip chip)
 {
+	const uint64_t n = chip.n;
 	uint64_t right = 0;
 
 	scene->region.n = n;
+	scene->region.size = chip.size;
 	scene_call(test, FIRST_BITMAP, scene);
 	expect_answer(test, REAM_OK, "a first bitmap is given");
 	for (uint64_t block = 0; block < n; block++)
@@ -21,15 +23,15 @@ static void expect_first_bitmap(struct test *test, struct scene *scene, uint64_t
 
 static void try_first_bitmaps(struct test *test, struct scene *scene)
 {
-	for (unsigned size = 0; size < SIZES; size++) {
-		const uint64_t n = sizes[size];
+	for (unsigned chip = 0; chip < CHIPS; chip++) {
+		const uint64_t n = chips[chip].n;
 
 		test->trying = "marks that are all the same";
-		for (unsigned byte = 0; byte < 256; byte += size < 3 ? 1 : 51) {
+		for (unsigned byte = 0; byte < 256; byte += n <= 16 ? 1 : 51) {
 			if (left_out(test))
 				continue;
 			memset(scene->marks, (int)byte, (size_t)n);
-			expect_first_bitmap(test, scene, n);
+			expect_first_bitmap(test, scene, chips[chip]);
 		}
 
 		test->trying = "a single mark that is 0, or is not";
@@ -40,10 +42,10 @@ static void try_first_bitmaps(struct test *test, struct scene *scene)
 				continue;
 			memset(scene->marks, 0xFF, (size_t)n);
 			scene->marks[block] = 0;
-			expect_first_bitmap(test, scene, n);
+			expect_first_bitmap(test, scene, chips[chip]);
 			memset(scene->marks, 0, (size_t)n);
 			scene->marks[block] = (uint8_t)(1 << i % 8);
-			expect_first_bitmap(test, scene, n);
+			expect_first_bitmap(test, scene, chips[chip]);
 		}
 
 		test->trying = "drawn marks";
@@ -52,7 +54,7 @@ static void try_first_bitmaps(struct test *test, struct scene *scene)
 			for (uint64_t block = 0; block < n; block++)
 				if (i % 2 == 0 && draw_below(&test->state, 2) == 0)
 					scene->marks[block] = 0;
-			expect_first_bitmap(test, scene, n);
+			expect_first_bitmap(test, scene, chips[chip]);
 		}
 	}
 }

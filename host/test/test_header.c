@@ -24,6 +24,17 @@ static void try_version(struct test *test)
 	       "the version as text and as a number agree");
 }
 
+/* The sizes of the buffers for these numbers, which are P pages to a copy: 0 where they are no chip's. */
+static bool sizes_right(uint64_t n, uint64_t size, unsigned pages)
+{
+	const bool fits = is_chip(n, size);
+
+	return ream_region_fits(n, size) == fits && ream_table_pages(n) == pages &&
+	       ream_image_size(n, size) == (fits ? size * pages * 2112 : 0) &&
+	       ream_status_size(n, size) == (fits ? size * pages : 0) &&
+	       ream_bitmap_size(n) == (pages == 0 ? 0 : n / 4);
+}
+
 static void try_sizes_of_buffers(struct test *test)
 {
 	uint64_t right = 0;
@@ -32,17 +43,23 @@ static void try_sizes_of_buffers(struct test *test)
 	for (uint64_t n = 8; n <= 32768; n += 4) {
 		const unsigned pages = n <= 8192 ? 1 : n <= 16384 ? 2 : n <= 24576 ? 3 : 4;
 
-		right += ream_table_pages(n) == pages && ream_image_size(n) == 4 * pages * 2112 &&
-			 ream_status_size(n) == 4 * pages && ream_bitmap_size(n) == n / 4;
+		for (uint64_t size = 0; size < 12; size++)
+			right += sizes_right(n, size, pages);
+		for (unsigned i = 0; i < NO_SIZES; i++)
+			right += sizes_right(n, no_sizes[i], pages);
 	}
-	expect(test, right == 32768 / 4 - 1, "the sizes of every number of blocks");
-	for (unsigned i = 0; i < NO_SIZES; i++)
-		expect(test, ream_table_pages(no_sizes[i]) == 0 && ream_image_size(no_sizes[i]) == 0 &&
-		       ream_status_size(no_sizes[i]) == 0 && ream_bitmap_size(no_sizes[i]) == 0,
-		       "a number that is no number of blocks has sizes 0");
-	expect(test, ream_image_size(REAM_BLOCKS_MAX) == REAM_IMAGE_SIZE_MAX &&
-	       ream_status_size(REAM_BLOCKS_MAX) == REAM_STATUS_SIZE_MAX &&
+	expect(test, right == (32768 / 4 - 1) * (12 + NO_SIZES), "the sizes of every number of blocks");
+	for (unsigned i = 0; i < NO_NUMBERS; i++)
+		for (uint64_t size = 0; size < 12; size++)
+			expect(test, sizes_right(no_numbers[i], size, 0),
+			       "a number that is no number of blocks has sizes 0");
+	expect(test, ream_image_size(REAM_BLOCKS_MAX, REAM_REGION_BLOCKS_MAX) == REAM_IMAGE_SIZE_MAX &&
+	       ream_status_size(REAM_BLOCKS_MAX, REAM_REGION_BLOCKS_MAX) == REAM_STATUS_SIZE_MAX &&
 	       ream_bitmap_size(REAM_BLOCKS_MAX) == REAM_BITMAP_SIZE_MAX, "the largest sizes");
+	expect(test, REAM_IMAGE_SIZE_MAX == 7 * 4 * 2112 && REAM_STATUS_SIZE_MAX == 7 * 4 &&
+	       REAM_BITMAP_SIZE_MAX == 8192, "they are those of 32,768 blocks with a region of seven");
+	expect(test, ream_region_fits(REAM_BLOCKS_MIN, REAM_REGION_BLOCKS_MIN) &&
+	       !ream_region_fits(REAM_BLOCKS_MIN, REAM_REGION_BLOCKS_MIN + 1), "eight blocks allow a region of four");
 }
 
 static void try_entries_of_bitmaps(struct test *test)
@@ -103,46 +120,50 @@ static void try_null_in_pages(struct test *test)
 	       "with no null pointer the checked functions are the entries");
 }
 
-/* Of the large chip's that read, plan and make a first bitmap. */
+/* Of the large chip's that read, plan and make a first bitmap; the chip has 12 blocks, 6 of them its region. */
 static void try_null_in_regions(struct test *test, struct scene *scene)
 {
-	const struct cast cast = cast_settled(8, 1, 0, 200);
+	const struct cast cast = cast_settled((struct chip){ 12, 6 }, 5, 0, 200);
 	const uint8_t *image = scene->region.image, *status = scene->region.status;
 	const uint8_t *marks = scene->marks, *wanted = scene->wanted;
-	uint8_t bitmap[2] = { 0x5A, 0x5A };
+	uint8_t bitmap[3] = { 0x5A, 0x5A, 0x5A };
 	uint8_t steps[64];
 	bool refused;
 
 	test->trying = "null pointers";
 	scene_build(test, scene, &cast);
-	memset(scene->wanted, 0xFF, 2);
+	memset(scene->wanted, 0xFF, 3);
 	memset(steps, 0x5A, 64);
-	refused = ream_first_bitmap_checked(8, NULL, 8, bitmap, 2) == REAM_LENGTH &&
-		  ream_first_bitmap_checked(8, marks, 8, NULL, 2) == REAM_LENGTH &&
-		  ream_table_read_checked(8, NULL, 8448, status, 4, bitmap, 2) == REAM_LENGTH &&
-		  ream_table_read_checked(8, image, 8448, NULL, 4, bitmap, 2) == REAM_LENGTH &&
-		  ream_table_read_checked(8, image, 8448, status, 4, NULL, 2) == REAM_LENGTH &&
-		  ream_update_plan_checked(8, NULL, 8448, status, 4, wanted, 2, steps, 64) == REAM_LENGTH &&
-		  ream_update_plan_checked(8, image, 8448, NULL, 4, wanted, 2, steps, 64) == REAM_LENGTH &&
-		  ream_update_plan_checked(8, image, 8448, status, 4, NULL, 2, steps, 64) == REAM_LENGTH &&
-		  ream_update_plan_checked(8, image, 8448, status, 4, wanted, 2, NULL, 64) == REAM_LENGTH &&
-		  ream_recovery_plan_checked(8, NULL, 8448, status, 4, steps, 64) == REAM_LENGTH &&
-		  ream_recovery_plan_checked(8, image, 8448, NULL, 4, steps, 64) == REAM_LENGTH &&
-		  ream_recovery_plan_checked(8, image, 8448, status, 4, NULL, 64) == REAM_LENGTH;
+	refused = ream_first_bitmap_checked(12, 6, NULL, 12, bitmap, 3) == REAM_LENGTH &&
+		  ream_first_bitmap_checked(12, 6, marks, 12, NULL, 3) == REAM_LENGTH &&
+		  ream_table_read_checked(12, 6, NULL, 12672, status, 6, bitmap, 3) == REAM_LENGTH &&
+		  ream_table_read_checked(12, 6, image, 12672, NULL, 6, bitmap, 3) == REAM_LENGTH &&
+		  ream_table_read_checked(12, 6, image, 12672, status, 6, NULL, 3) == REAM_LENGTH &&
+		  ream_update_plan_checked(12, 6, NULL, 12672, status, 6, wanted, 3, steps, 64) == REAM_LENGTH &&
+		  ream_update_plan_checked(12, 6, image, 12672, NULL, 6, wanted, 3, steps, 64) == REAM_LENGTH &&
+		  ream_update_plan_checked(12, 6, image, 12672, status, 6, NULL, 3, steps, 64) == REAM_LENGTH &&
+		  ream_update_plan_checked(12, 6, image, 12672, status, 6, wanted, 3, NULL, 64) == REAM_LENGTH &&
+		  ream_recovery_plan_checked(12, 6, NULL, 12672, status, 6, steps, 64) == REAM_LENGTH &&
+		  ream_recovery_plan_checked(12, 6, image, 12672, NULL, 6, steps, 64) == REAM_LENGTH &&
+		  ream_recovery_plan_checked(12, 6, image, 12672, status, 6, NULL, 64) == REAM_LENGTH;
 	expect(test, refused, "a null pointer is refused as a wrong length");
-	expect(test, ream_first_bitmap_checked(4, NULL, 0, NULL, 0) == REAM_RANGE &&
-	       ream_table_read_checked(10, NULL, 0, NULL, 0, NULL, 0) == REAM_RANGE &&
-	       ream_update_plan_checked(32772, NULL, 0, NULL, 0, NULL, 0, NULL, 0) == REAM_RANGE &&
-	       ream_recovery_plan_checked(0, NULL, 0, NULL, 0, NULL, 0) == REAM_RANGE,
-	       "a wrong number of blocks is refused before a null pointer");
-	expect(test, bitmap[0] == 0x5A && bitmap[1] == 0x5A && steps[0] == 0x5A && steps[63] == 0x5A,
+	refused = ream_first_bitmap_checked(4, 4, NULL, 0, NULL, 0) == REAM_RANGE &&
+		  ream_first_bitmap_checked(12, 7, NULL, 0, NULL, 0) == REAM_RANGE &&
+		  ream_table_read_checked(10, 4, NULL, 0, NULL, 0, NULL, 0) == REAM_RANGE &&
+		  ream_table_read_checked(8, 5, NULL, 0, NULL, 0, NULL, 0) == REAM_RANGE &&
+		  ream_update_plan_checked(32772, 4, NULL, 0, NULL, 0, NULL, 0, NULL, 0) == REAM_RANGE &&
+		  ream_update_plan_checked(12, 3, NULL, 0, NULL, 0, NULL, 0, NULL, 0) == REAM_RANGE &&
+		  ream_recovery_plan_checked(0, 4, NULL, 0, NULL, 0, NULL, 0) == REAM_RANGE &&
+		  ream_recovery_plan_checked(32768, 8, NULL, 0, NULL, 0, NULL, 0) == REAM_RANGE;
+	expect(test, refused, "a wrong number of blocks, or size of the region, is refused before a null pointer");
+	expect(test, memcmp(bitmap, "\x5A\x5A\x5A", 3) == 0 && steps[0] == 0x5A && steps[63] == 0x5A,
 	       "a call refused for a null pointer changes nothing");
 
-	expect(test, ream_table_read_checked(8, image, 8448, status, 4, bitmap, 2) ==
-	       (200 << 8 | 5 << 16 | (uint64_t)4 << 32) && memcmp(bitmap, scene->table[PRIMARY], 2) == 0 &&
-	       ream_update_plan_checked(8, image, 8448, status, 4, wanted, 2, steps, 64) == 200 << 8 &&
-	       ream_recovery_plan_checked(8, image, 8448, status, 4, steps, 64) == 200 << 8 &&
-	       ream_first_bitmap_checked(8, marks, 8, bitmap, 2) == REAM_OK &&
+	expect(test, ream_table_read_checked(12, 6, image, 12672, status, 6, bitmap, 3) ==
+	       (200 << 8 | 11 << 16 | (uint64_t)6 << 32) && memcmp(bitmap, scene->table[PRIMARY], 3) == 0 &&
+	       ream_update_plan_checked(12, 6, image, 12672, status, 6, wanted, 3, steps, 64) == 200 << 8 &&
+	       ream_recovery_plan_checked(12, 6, image, 12672, status, 6, steps, 64) == 200 << 8 &&
+	       ream_first_bitmap_checked(12, 6, marks, 12, bitmap, 3) == REAM_OK &&
 	       ream_entry_get(bitmap, 7) == (marks[7] == 0 ? REAM_ENTRY_FACTORY : REAM_ENTRY_GOOD),
 	       "with no null pointer the checked functions are the entries");
 }
@@ -150,37 +171,39 @@ static void try_null_in_regions(struct test *test, struct scene *scene)
 /* Of those that give pages. */
 static void try_null_in_asking(struct test *test, struct scene *scene)
 {
-	struct cast cast = cast_settled(8, 1, 0, 200);
+	struct cast cast = cast_settled((struct chip){ 12, 6 }, 1, 5, 200);
 	const uint8_t *image = scene->region.image, *status = scene->region.status, *wanted = scene->wanted;
 	uint8_t page[2112], asked[2112];
 	bool refused;
 
 	test->trying = "null pointers in asking for pages";
 	memset(scene->table, 0xFF, sizeof(scene->table));
-	memcpy(scene->wanted, "\x27\xFF", 2);
+	memcpy(scene->wanted, "\x27\xFF\xFF", 3);
 	scene_rebuild(test, scene, &cast);
 	memset(page, 0x5A, sizeof(page));
 	memset(asked, 0x5A, sizeof(asked));
-	refused = ream_update_page_checked(8, NULL, 8448, status, 4, wanted, 2, 1, page, 2112) == REAM_LENGTH &&
-		  ream_update_page_checked(8, image, 8448, NULL, 4, wanted, 2, 1, page, 2112) == REAM_LENGTH &&
-		  ream_update_page_checked(8, image, 8448, status, 4, NULL, 2, 1, page, 2112) == REAM_LENGTH &&
-		  ream_update_page_checked(8, image, 8448, status, 4, wanted, 2, 1, NULL, 2112) == REAM_LENGTH &&
-		  ream_recovery_page_checked(8, NULL, 8448, status, 4, 1, page, 2112) == REAM_LENGTH &&
-		  ream_recovery_page_checked(8, image, 8448, NULL, 4, 1, page, 2112) == REAM_LENGTH &&
-		  ream_recovery_page_checked(8, image, 8448, status, 4, 1, NULL, 2112) == REAM_LENGTH;
+	refused = ream_update_page_checked(12, 6, NULL, 12672, status, 6, wanted, 3, 1, page, 2112) == REAM_LENGTH &&
+		  ream_update_page_checked(12, 6, image, 12672, NULL, 6, wanted, 3, 1, page, 2112) == REAM_LENGTH &&
+		  ream_update_page_checked(12, 6, image, 12672, status, 6, NULL, 3, 1, page, 2112) == REAM_LENGTH &&
+		  ream_update_page_checked(12, 6, image, 12672, status, 6, wanted, 3, 1, NULL, 2112) == REAM_LENGTH &&
+		  ream_recovery_page_checked(12, 6, NULL, 12672, status, 6, 1, page, 2112) == REAM_LENGTH &&
+		  ream_recovery_page_checked(12, 6, image, 12672, NULL, 6, 1, page, 2112) == REAM_LENGTH &&
+		  ream_recovery_page_checked(12, 6, image, 12672, status, 6, 1, NULL, 2112) == REAM_LENGTH;
 	expect(test, refused, "a null pointer is refused as a wrong length");
-	expect(test, ream_update_page_checked(9, NULL, 0, NULL, 0, NULL, 0, 1, NULL, 0) == REAM_RANGE &&
-	       ream_recovery_page_checked(9, NULL, 0, NULL, 0, 1, NULL, 0) == REAM_RANGE,
-	       "a wrong number of blocks is refused before a null pointer");
+	refused = ream_update_page_checked(9, 4, NULL, 0, NULL, 0, NULL, 0, 1, NULL, 0) == REAM_RANGE &&
+		  ream_update_page_checked(12, 7, NULL, 0, NULL, 0, NULL, 0, 1, NULL, 0) == REAM_RANGE &&
+		  ream_recovery_page_checked(9, 4, NULL, 0, NULL, 0, 1, NULL, 0) == REAM_RANGE &&
+		  ream_recovery_page_checked(12, 7, NULL, 0, NULL, 0, 1, NULL, 0) == REAM_RANGE;
+	expect(test, refused, "a wrong number of blocks, or size of the region, is refused before a null pointer");
 	expect(test, memcmp(page, asked, sizeof(page)) == 0, "a call refused for a null pointer changes nothing");
 
 	region_lay_out(&scene->region, 0, MIRROR, 201, scene->wanted, asked);
-	expect(test, ream_update_page_checked(8, image, 8448, status, 4, wanted, 2, 3, page, 2112) == REAM_OK &&
+	expect(test, ream_update_page_checked(12, 6, image, 12672, status, 6, wanted, 3, 3, page, 2112) == REAM_OK &&
 	       memcmp(page, asked, sizeof(page)) == 0, "with no null pointer an update's page is given");
 	cast.version[PRIMARY] = 201;
 	scene_rebuild(test, scene, &cast);
 	region_lay_out(&scene->region, 0, MIRROR, 201, scene->table[PRIMARY], asked);
-	expect(test, ream_recovery_page_checked(8, image, 8448, status, 4, 1, page, 2112) == REAM_OK &&
+	expect(test, ream_recovery_page_checked(12, 6, image, 12672, status, 6, 1, page, 2112) == REAM_OK &&
 	       memcmp(page, asked, sizeof(page)) == 0, "with no null pointer a recovery's page is given");
 }
 

@@ -53,13 +53,16 @@ try_programs() (
 	cat > small.c <<- 'END'
 		#include <reamsickle.h>
 
-		#if REAM_LIBRARY_VERSION_NUMBER < 10000
+		#if REAM_LIBRARY_VERSION_NUMBER < 20000
 		#error "an older library"
 		#endif
 
 		int main(void)
 		{
-			return ream_refusal(ream_half_code_checked(NULL, 0, NULL, 0)) == REAM_LENGTH ? 0 : 1;
+			const uint64_t half = ream_half_code_checked(NULL, 0, NULL, 0);
+			const uint64_t chip = ream_table_read_checked(8, REAM_REGION_BLOCKS_MAX, NULL, 0, NULL, 0, NULL, 0);
+
+			return ream_refusal(half) == REAM_LENGTH && ream_refusal(chip) == REAM_RANGE ? 0 : 1;
 		}
 	END
 	"${cc[@]}" -std=c99 "${strict[@]}" -fsyntax-only alone.c "${flags[@]}"
@@ -89,6 +92,9 @@ for file in include/reamsickle.h lib/libreamsickle.a lib/pkgconfig/reamsickle.pc
 	[ -f "$root/$file" ] || fail "there is no $file"
 done
 [ "$(sed -n 's/^prefix=//p' "$root/lib/pkgconfig/reamsickle.pc")" = "$full" ] || fail "the file's prefix is not $full"
+version=$(sed -n 's/^#define REAM_LIBRARY_VERSION "\(.*\)"/\1/p' "$root/include/reamsickle.h")
+[ "$(sed -n 's/^Version: //p' "$root/lib/pkgconfig/reamsickle.pc")" = "$version" ] ||
+	fail "the file's version is not the header's, $version"
 "$root/bin/ream" --version > /dev/null
 if [ -z "$destdir" ]; then
 	read_flags

@@ -17,7 +17,7 @@
 static void try_version_examples(struct test *test, struct scene *scene)
 {
 	static const uint8_t ahead_by_one[2][KINDS] = { { 0, 255 }, { 128, 127 } };
-	struct cast cast = cast_settled(8, 3, 2, 0);
+	struct cast cast = cast_settled((struct chip){ 8, 4 }, 3, 2, 0);
 
 	test->trying = "document 01's versions";
 	for (unsigned i = 0; i < 2; i++) {
@@ -46,9 +46,9 @@ static void try_version_examples(struct test *test, struct scene *scene)
 static void try_settled(struct test *test, struct scene *scene)
 {
 	test->trying = "settled pairs, every placement";
-	for (unsigned size = 0; size < SIZES; size++) {
-		for (unsigned i = 0; i < PLACEMENTS; i++) {
-			const struct cast cast = cast_placed(sizes[size], i, (uint8_t)draw(&test->state));
+	for (unsigned chip = 0; chip < CHIPS; chip++) {
+		for (unsigned i = 0; i < placements(chips[chip]); i++) {
+			const struct cast cast = cast_placed(chips[chip], i, (uint8_t)draw(&test->state));
 
 			scene_build(test, scene, &cast);
 			expect_cast(test, scene, &cast);
@@ -59,7 +59,8 @@ static void try_settled(struct test *test, struct scene *scene)
 
 	test->trying = "settled pairs of every number of blocks";
 	for (uint64_t n = 8; n <= 32768; n += 4 * (1 + draw_below(&test->state, 20))) {
-		const struct cast cast = cast_placed(n, (unsigned)draw_below(&test->state, PLACEMENTS), 254);
+		const struct chip chip = drawn_chip(test, n);
+		const struct cast cast = cast_placed(chip, (unsigned)draw_below(&test->state, placements(chip)), 254);
 
 		if (left_out(test))
 			continue;
@@ -71,33 +72,41 @@ static void try_settled(struct test *test, struct scene *scene)
 
 /* ---- damage */
 
-/* Each page of each copy of a settled pair spoilt in each way. */
+/* A page of a settled pair's copy of a kind, in pair i of blocks, is spoilt in a way. */
+static void try_spoilt(struct test *test, struct scene *scene, struct chip chip, unsigned i, enum kind kind,
+		       unsigned page, enum way way)
+{
+	struct cast cast = cast_placed(chip, i, 100);
+
+	cast.page = page;
+	cast.way = way;
+	for (unsigned block = 0; block < chip.size; block++) {
+		if (cast.role[block] == GOOD_PRIMARY && kind == PRIMARY)
+			cast.role[block] = SPOILT_PRIMARY;
+		if (cast.role[block] == GOOD_MIRROR && kind == MIRROR)
+			cast.role[block] = SPOILT_MIRROR;
+	}
+	scene_build(test, scene, &cast);
+	expect_cast(test, scene, &cast);
+	scene_stir(test, scene);
+	expect_cast_carried_out(test, scene, &cast);
+}
+
+/* Each page of each copy of a settled pair spoilt in each way, in twelve pairs of blocks: of four blocks these are
+ * all, of more they go on from way to way. */
 static void try_damage(struct test *test, struct scene *scene)
 {
 	test->trying = "one spoilt page";
-	for (unsigned p = 0; p < MOST_PAGES; p++) {
-		for (unsigned i = 0; i < PLACEMENTS * 2; i++) {
-			for (unsigned k = 0; k < (p + 1) * WAYS; k++) {
-				struct cast cast = cast_placed(size_by_pages[p], i / 2, 100);
+	for (unsigned shape = 0; shape < SHAPES; shape++) {
+		const unsigned pages = ream_table_pages(shapes[shape].n);
+		const unsigned ways = pages == 1 ? OTHER_SIGNATURE : WAYS;
 
-				if (left_out(test))
-					continue;
-				cast.page = k / WAYS;
-				cast.way = (enum way)(k % WAYS);
-				if (p == 0 && cast.way >= OTHER_SIGNATURE)
-					continue;
-				for (unsigned block = 0; block < REGION_BLOCKS; block++) {
-					if (cast.role[block] == GOOD_PRIMARY && i % 2 == 0)
-						cast.role[block] = SPOILT_PRIMARY;
-					if (cast.role[block] == GOOD_MIRROR && i % 2 == 1)
-						cast.role[block] = SPOILT_MIRROR;
-				}
-				scene_build(test, scene, &cast);
-				expect_cast(test, scene, &cast);
-				scene_stir(test, scene);
-				expect_cast_carried_out(test, scene, &cast);
-			}
-		}
+		for (unsigned k = 0; k < pages * ways; k++)
+			for (unsigned i = 12 * k; i < 12 * k + 12; i++)
+				for (unsigned kind = 0; kind < KINDS; kind++)
+					if (!left_out(test))
+						try_spoilt(test, scene, shapes[shape], i, (enum kind)kind, k / ways,
+							   (enum way)(k % ways));
 	}
 }
 
@@ -120,19 +129,21 @@ static void expect_one_bit(struct test *test, struct scene *scene, enum entry_in
 static void try_header_bits(struct test *test, struct scene *scene)
 {
 	test->trying = "a flipped bit of a signature or a version";
-	for (unsigned p = 0; p < MOST_PAGES; p++) {
-		const struct cast cast = cast_settled(size_by_pages[p], 1, 3, 100);
+	for (unsigned shape = 0; shape < SHAPES; shape++) {
+		const unsigned last = shapes[shape].size - 1;
+		const struct cast cast = cast_settled(shapes[shape], 1, last, 100);
+		const unsigned pages = ream_table_pages(cast.chip.n);
 
 		scene_build_changing(test, scene, &cast);
-		for (unsigned page = 0; page <= p; page++) {
+		for (unsigned page = 0; page < pages; page++) {
 			for (unsigned bit = 0; bit < 2 * 8 * 5; bit++) {
-				uint8_t *oob = region_oob(&scene->region, bit < 40 ? 1 : 3, page);
+				uint8_t *oob = region_oob(&scene->region, bit < 40 ? 1 : last, page);
 
 				if (left_out(test))
 					continue;
 				oob[SIGNATURE + bit % 40 / 8] ^= (uint8_t)(1 << bit % 8);
 				for (unsigned i = 0; i < REGION_ENTRIES; i++)
-					expect_one_bit(test, scene, region_entries[i], p == 0 && bit % 40 == 39);
+					expect_one_bit(test, scene, region_entries[i], pages == 1 && bit % 40 == 39);
 				oob[SIGNATURE + bit % 40 / 8] ^= (uint8_t)(1 << bit % 8);
 			}
 		}
@@ -162,15 +173,16 @@ static void expect_merged(struct test *test, struct scene *scene, size_t i, uint
 static void try_bitmap_bits(struct test *test, struct scene *scene)
 {
 	test->trying = "copies that differ in one bit of the bitmap";
-	for (unsigned size = 0; size < SIZES; size++) {
-		const struct cast cast = cast_placed(sizes[size], size % PLACEMENTS, 255);
-		const size_t step = sizes[size] < 32768 ? 1 + (size_t)sizes[size] / 4000 : 1;
+	for (unsigned chip = 0; chip < CHIPS; chip++) {
+		const uint64_t n = chips[chip].n;
+		const struct cast cast = cast_placed(chips[chip], chip, 255);
+		const size_t step = n < 32768 ? 1 + (size_t)n / 4000 : 1;
 		unsigned mirror = 0;
 
 		while (cast.role[mirror] != GOOD_MIRROR)
 			mirror++;
 		scene_build(test, scene, &cast);
-		for (size_t i = 0; i < sizes[size] / 4; i += step) {
+		for (size_t i = 0; i < n / 4; i += step) {
 			const unsigned page = (unsigned)(i / PAGE_DATA);
 			uint8_t *byte = region_data(&scene->region, mirror, page) + i % PAGE_DATA;
 			const uint8_t kept = *byte;
@@ -189,38 +201,72 @@ static void try_bitmap_bits(struct test *test, struct scene *scene)
 
 /* ---- every block in every role, and all versions */
 
-static void try_roles(struct test *test, struct scene *scene)
+/* A cast whose roles are set, with versions, tables and the spoilt page drawn. */
+static void try_roles_set(struct test *test, struct scene *scene, struct cast *cast, bool stirred)
 {
 	static const uint8_t ahead[] = { 0, 0, 0, 0, 1, 2, 127, 128, 129, 255 };
 
-	test->trying = "every block in every role";
-	for (unsigned p = 0; p < MOST_PAGES; p++) {
-		for (unsigned all = 0; all < ROLES * ROLES * ROLES * ROLES; all++) {
-			struct cast cast = cast_settled(size_by_pages[p], 0, 1, (uint8_t)draw(&test->state));
-			unsigned rest = all;
+	cast->version[PRIMARY] = cast->version[MIRROR] = (uint8_t)draw(&test->state);
+	cast->version[PRIMARY] += ahead[draw_below(&test->state, sizeof(ahead))];
+	cast->equal = draw_below(&test->state, 2) == 0;
+	cast_draw_spoilt(test, cast);
+	scene_build(test, scene, cast);
+	if (stirred) {
+		expect_cast(test, scene, cast);
+		scene_stir(test, scene);
+	}
+	expect_cast_carried_out(test, scene, cast);
+}
 
-			if (left_out(test))
-				continue;
-			for (unsigned block = 0; block < REGION_BLOCKS; block++) {
-				cast.role[block] = (enum role)(rest % ROLES);
-				rest /= ROLES;
-			}
-			cast.version[PRIMARY] += ahead[draw_below(&test->state, sizeof(ahead))];
-			cast.equal = draw_below(&test->state, 2) == 0;
-			cast_draw_spoilt(test, &cast);
-			scene_build(test, scene, &cast);
-			if (all % 3 == 0) {
-				expect_cast(test, scene, &cast);
-				scene_stir(test, scene);
-			}
-			expect_cast_carried_out(test, scene, &cast);
+/* Of four blocks all roles together. */
+static void try_all_roles(struct test *test, struct scene *scene, struct chip chip)
+{
+	struct cast cast = cast_settled(chip, 0, 1, 0);
+
+	for (unsigned all = 0; all < ROLES * ROLES * ROLES * ROLES; all++) {
+		unsigned rest = all;
+
+		if (left_out(test))
+			continue;
+		for (unsigned block = 0; block < chip.size; block++) {
+			cast.role[block] = (enum role)(rest % ROLES);
+			rest /= ROLES;
 		}
+		try_roles_set(test, scene, &cast, all % 3 == 0);
+	}
+}
+
+/* Of more blocks some, drawn: at most three blocks in any role, and the others with no good copy, so that two of a
+ * kind are not the rule. */
+static void try_drawn_roles(struct test *test, struct scene *scene, struct chip chip)
+{
+	struct cast cast = cast_settled(chip, 0, 1, 0);
+
+	for (unsigned i = 0; i < 400; i++) {
+		if (left_out(test))
+			continue;
+		for (unsigned block = 0; block < chip.size; block++)
+			cast.role[block] = drawn_role(test, MARKED);
+		for (unsigned k = 0; k < 3; k++)
+			cast.role[draw_below(&test->state, chip.size)] = drawn_role(test, GOOD_PRIMARY);
+		try_roles_set(test, scene, &cast, i % 3 == 0);
+	}
+}
+
+static void try_roles(struct test *test, struct scene *scene)
+{
+	test->trying = "every block in every role";
+	for (unsigned shape = 0; shape < SHAPES; shape++) {
+		if (shapes[shape].size == FEWEST_REGION_BLOCKS)
+			try_all_roles(test, scene, shapes[shape]);
+		else
+			try_drawn_roles(test, scene, shapes[shape]);
 	}
 }
 
 static void try_versions(struct test *test, struct scene *scene)
 {
-	struct cast cast = cast_settled(8, 0, 2, 0);
+	struct cast cast = cast_settled((struct chip){ 8, 4 }, 0, 2, 0);
 
 	test->trying = "all pairs of versions";
 	scene_build(test, scene, &cast);
@@ -235,13 +281,13 @@ static void try_versions(struct test *test, struct scene *scene)
 	}
 
 	test->trying = "all differences of versions, equal and different bitmaps";
-	for (unsigned size = 0; size < SIZES; size++) {
+	for (unsigned shape = 0; shape < SHAPES; shape++) {
 		for (unsigned i = 0; i < 2 * 256; i++) {
-			const unsigned placement = (unsigned)draw_below(&test->state, PLACEMENTS);
+			const unsigned placement = (unsigned)draw_below(&test->state, placements(shapes[shape]));
 
 			if (left_out(test))
 				continue;
-			cast = cast_placed(sizes[size], placement, (uint8_t)draw(&test->state));
+			cast = cast_placed(shapes[shape], placement, (uint8_t)draw(&test->state));
 			cast.version[PRIMARY] += (uint8_t)(i / 2);
 			cast.equal = i % 2 == 0;
 			scene_build(test, scene, &cast);

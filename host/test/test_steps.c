@@ -34,16 +34,16 @@ static void expect_steps(struct test *test, struct scene *scene, enum entry_inde
 static void try_steps(struct test *test, struct scene *scene)
 {
 	test->trying = "numbers of steps";
-	for (unsigned p = 0; p < MOST_PAGES; p++) {
+	for (unsigned pages = 1; pages <= MOST_PAGES; pages++) {
 		for (unsigned trouble = 0; trouble < TROUBLES; trouble++) {
-			const struct cast cast = cast_troubled(size_by_pages[p], trouble);
+			const struct cast cast = cast_troubled(drawn_shape(test, pages), trouble);
 
 			if (left_out(test))
 				continue;
 			scene_build_changing(test, scene, &cast);
 			expect_steps(test, scene, RECOVERY_PLAN, RECOVERY_PAGE);
 			expect_steps(test, scene, UPDATE_PLAN, UPDATE_PAGE);
-			memset(scene->wanted, 0xFF, (size_t)cast.n / 4);
+			memset(scene->wanted, 0xFF, (size_t)cast.chip.n / 4);
 			expect_steps(test, scene, UPDATE_PLAN, UPDATE_PAGE);
 		}
 	}

@@ -16,7 +16,7 @@
  * table that an update makes and that is read back. */
 static void try_entry_example(struct test *test, struct scene *scene)
 {
-	const struct cast cast = cast_settled(8, 3, 2, 7);
+	const struct cast cast = cast_settled((struct chip){ 8, 4 }, 3, 2, 7);
 	uint8_t bitmap[2] = { 0x00, 0xFF };
 
 	test->trying = "document 01's entries";
@@ -37,7 +37,7 @@ static void try_entry_example(struct test *test, struct scene *scene)
 static void try_wanted(struct test *test, struct scene *scene, const struct cast *cast, const uint8_t *old,
 		       const uint8_t *wanted)
 {
-	const size_t len = (size_t)cast->n / 4;
+	const size_t len = (size_t)cast->chip.n / 4;
 
 	memcpy(scene->table[PRIMARY], old, len);
 	memcpy(scene->table[MIRROR], old, len);
@@ -50,7 +50,8 @@ static void try_wanted(struct test *test, struct scene *scene, const struct cast
  * The other byte has an entry of each kind, and its factory entry is wanted good, which is no change. */
 static void try_all_bytes(struct test *test, struct scene *scene)
 {
-	const struct cast cast = cast_settled(8, 2, 0, 255);
+	static const unsigned block[KINDS] = { 2, 0 };
+	const struct cast cast = cast_settled((struct chip){ 8, 4 }, block[PRIMARY], block[MIRROR], 255);
 	const uint8_t *page;
 
 	test->trying = "all pairs of an old and a wanted byte";
@@ -65,9 +66,9 @@ static void try_all_bytes(struct test *test, struct scene *scene)
 		for (unsigned k = 0; k < 8; k += 2)
 			if ((old >> k & 3) == 3)
 				made = (made & ~(3u << k)) | (wanted & 3u << k);
-		for (unsigned block = 0; block < REGION_BLOCKS; block += 2) {
-			region_data(&scene->region, block, 0)[byte] = old;
-			region_data(&scene->region, block, 0)[1 - byte] = 0x1B;
+		for (unsigned kind = 0; kind < KINDS; kind++) {
+			region_data(&scene->region, block[kind], 0)[byte] = old;
+			region_data(&scene->region, block[kind], 0)[1 - byte] = 0x1B;
 		}
 		scene->wanted[byte] = wanted;
 		scene->wanted[1 - byte] = 0xDB;
@@ -87,10 +88,10 @@ static void try_one_entry(struct test *test, struct scene *scene, const struct c
 {
 	uint8_t old[MOST_BITMAP], wanted[MOST_BITMAP];
 
-	memset(old, 0xFF, (size_t)cast->n / 4);
-	memset(wanted, 0xFF, (size_t)cast->n / 4);
+	memset(old, 0xFF, (size_t)cast->chip.n / 4);
+	memset(wanted, 0xFF, (size_t)cast->chip.n / 4);
 	for (unsigned pair = 0; pair < 4 * 4; pair++) {
-		const unsigned pages = ream_table_pages(cast->n);
+		const unsigned pages = ream_table_pages(cast->chip.n);
 		const bool changes = pair / 4 == REAM_ENTRY_GOOD && pair % 4 != REAM_ENTRY_GOOD;
 
 		if (left_out(test))
@@ -109,10 +110,10 @@ static void try_one_entry(struct test *test, struct scene *scene, const struct c
 
 static void try_updates(struct test *test, struct scene *scene)
 {
-	for (unsigned size = 0; size < SIZES; size++) {
-		const uint64_t n = sizes[size];
-		const uint64_t edges[] = { 0, 1, 2, 3, 4, n / 2, n - 5, n - 4, n - 3, n - 2, n - 1 };
-		const struct cast cast = cast_placed(n, size % PLACEMENTS, (uint8_t)(250 + size));
+	for (unsigned chip = 0; chip < CHIPS; chip++) {
+		const uint64_t n = chips[chip].n, first = n - chips[chip].size;
+		const uint64_t edges[] = { 0, 1, 2, 3, 4, n / 2, first - 1, first, first + 1, n - 2, n - 1 };
+		const struct cast cast = cast_placed(chips[chip], chip, (uint8_t)(250 + chip));
 
 		test->trying = "an update of one entry, old and wanted of every kind";
 		for (unsigned i = 0; i < sizeof(edges) / sizeof(edges[0]); i++)
@@ -127,7 +128,7 @@ static void try_updates(struct test *test, struct scene *scene)
 /* One entry at each byte of the largest bitmap. */
 static void try_each_byte(struct test *test, struct scene *scene)
 {
-	const struct cast cast = cast_settled(32768, 3, 0, 17);
+	const struct cast cast = cast_settled((struct chip){ 32768, 7 }, 6, 0, 17);
 
 	test->trying = "an update of one entry at each byte";
 	scene_build(test, scene, &cast);
@@ -150,9 +151,10 @@ static void try_each_byte(struct test *test, struct scene *scene)
 static void try_drawn_updates(struct test *test, struct scene *scene)
 {
 	for (unsigned i = 0; i < 1500; i++) {
-		const uint64_t n = sizes[draw_below(&test->state, SIZES)];
-		const unsigned placement = (unsigned)draw_below(&test->state, PLACEMENTS);
-		const struct cast cast = cast_placed(n, placement, (uint8_t)draw(&test->state));
+		const struct chip chip = chips[draw_below(&test->state, CHIPS)];
+		const uint64_t n = chip.n;
+		const unsigned placement = (unsigned)draw_below(&test->state, placements(chip));
+		const struct cast cast = cast_placed(chip, placement, (uint8_t)draw(&test->state));
 		uint8_t old[MOST_BITMAP], wanted[MOST_BITMAP];
 
 		if (left_out(test))

@@ -19,6 +19,7 @@ void test_page_read(struct test *test);
 /* The large chip's, on regions that are settled, damaged in every way or senseless (scenes.h). */
 void test_first_bitmap(struct test *test, struct scene *scene);
 void test_pair(struct test *test, struct scene *scene);
+void test_sizes(struct test *test, struct scene *scene);
 void test_update(struct test *test, struct scene *scene);
 void test_steps(struct test *test, struct scene *scene);
 void test_drawn(struct test *test, struct scene *scene);

@@ -115,7 +115,7 @@ carry-update {p = p} {m = m} call (no-news e) all-done h now = now ∙ ap (holds
 carry-update call (news w) c h now = h
 
 pub ends-settled : EndsSettled
-ends-settled n chip e = record {
+ends-settled n size chip e = record {
   after = length-steps (pagesOf chip);
   settled = λ call q r u h c. carry-plan ok call (snapshot r) q (plan-ready ok r call q h) (track-first call (snapshot r) q h) c;
   updates = λ w q r u p m o now h c.
@@ -126,4 +126,4 @@ ends-settled n chip e = record {
 }
   where
     ok : Judged chip
-    ok = judge n chip e
+    ok = judge n size chip e

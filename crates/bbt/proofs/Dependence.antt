@@ -80,8 +80,8 @@ module _ (chip : LargeChip) (status x y : List ℕ) (alike : Alike chip status x
 
 pub dependence : Dependence
 unfolding tableReading planned imaged
-dependence n chip status x y e alike =
-    let some-page = pages-pos n chip e in
+dependence n size chip status x y e alike =
+    let some-page = pages-pos n size chip e in
     record {
       reads = λ room. rw e (lent-reading-agrees chip status x y alike some-page room);
       plans = λ call. rw e (lent-plan-agrees chip status x y alike some-page call);

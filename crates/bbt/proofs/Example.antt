@@ -10,7 +10,7 @@ use borrow.Author.Tests.{eqb-true, ne-eqb}
 use lib.Dec.{eqb, lit<}
 use lib.ListN.{getD, replicate, length-append, length-replicate}
 use Rattle.bits.proofs.Both.{both-left, both-right}
-use Rattle.chip.specs.Large.{chipOf, isBlocks}
+use Rattle.chip.specs.Large.{chipOf, isBlocks, isRegion}
 use Rattle.bbt.specs.declared.Kind.{Kind}
 use Rattle.bbt.specs.declared.Kind.the-variants.{Primary, Mirror}
 use Rattle.bbt.specs.Copies.{Table, all, also, find, good, highest, isMarked, isPage, pagePart, pageVersion, parts, readsBad, table}
@@ -30,8 +30,8 @@ use Rattle.bbt.proofs.Searches.{all-at, same-eq}
 use Rattle.bbt.proofs.AllBytes.{bytes-append, bytes-replicate, image-bytes}
 
 ok8 : Judged chip8
-unfolding chipOf isBlocks
-ok8 = judge 8 chip8 refl
+unfolding chipOf isBlocks isRegion
+ok8 = judge 8 4 chip8 refl
 
 -- ---- pages and regions
 blank : Bytes 2112 (replicate 2112 255)
@@ -130,15 +130,15 @@ unfolding reading readCase pairCase caseOf compared bothCase difference signedOf
 new-reads = refl
 
 update-plan : answer (for-update wanted) (snapshot r0) ≡ plan (double 0 1 newTable)
-unfolding planned chipOf isBlocks lentPlan regionLent statusesRight planByRules update updateFrom updated updatedBytes updatedByte updatedEntry nextVersion reading readCase pairCase caseOf compared bothCase difference signedOf find also good all isPage sameKind pageVersion seen pageOf badPage pageBytes kindOf kindOfWord same pageImage partImage imageData imageTail chunk table parts pagePart
+unfolding planned chipOf isBlocks isRegion lentPlan regionLent statusesRight planByRules update updateFrom updated updatedBytes updatedByte updatedEntry nextVersion reading readCase pairCase caseOf compared bothCase difference signedOf find also good all isPage sameKind pageVersion seen pageOf badPage pageBytes kindOf kindOfWord same pageImage partImage imageData imageTail chunk table parts pagePart
 update-plan = refl
 
 old-plan : answer for-recovery (snapshot cutOld) ≡ plan (single Primary 3 1 oldTable)
-unfolding planned chipOf isBlocks lentPlan regionLent statusesRight planByRules recovery recoverCase recoverTo recoverNewer target highest member readsBad isMarked reading readCase pairCase caseOf compared bothCase difference signedOf find also good all isPage sameKind pageVersion seen pageOf badPage pageBytes kindOf kindOfWord same pageImage partImage imageData imageTail chunk table parts pagePart
+unfolding planned chipOf isBlocks isRegion lentPlan regionLent statusesRight planByRules recovery recoverCase recoverTo recoverNewer target highest member readsBad isMarked reading readCase pairCase caseOf compared bothCase difference signedOf find also good all isPage sameKind pageVersion seen pageOf badPage pageBytes kindOf kindOfWord same pageImage partImage imageData imageTail chunk table parts pagePart
 old-plan = refl
 
 new-plan : answer for-recovery (snapshot cutNew) ≡ plan (single Mirror 1 0 newTable)
-unfolding planned chipOf isBlocks lentPlan regionLent statusesRight planByRules recovery recoverCase recoverTo recoverNewer target highest member readsBad isMarked reading readCase pairCase caseOf compared bothCase difference signedOf find also good all isPage sameKind pageVersion seen pageOf badPage pageBytes kindOf kindOfWord same pageImage partImage imageData imageTail chunk table parts pagePart
+unfolding planned chipOf isBlocks isRegion lentPlan regionLent statusesRight planByRules recovery recoverCase recoverTo recoverNewer target highest member readsBad isMarked reading readCase pairCase caseOf compared bothCase difference signedOf find also good all isPage sameKind pageVersion seen pageOf badPage pageBytes kindOf kindOfWord same pageImage partImage imageData imageTail chunk table parts pagePart
 new-plan = refl
 
 -- the page image of a plan's second step

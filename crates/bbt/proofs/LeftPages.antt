@@ -24,19 +24,19 @@ use Rattle.bbt.proofs.Searches.{all-at}
 
 -- ---- the chip
 pub record Judged (chip : LargeChip) : Type 0 where
-  pub is-chip : chipOf (chip .blocks) ≡ Chip chip
+  pub is-chip : chipOf (chip .blocks) (chip .region) ≡ Chip chip
   pub some-page : 0 < pagesOf chip
   pub fours : chip .blocks % 4 ≡ 0
   pub within : chip .region ≤ chip .blocks
 
-pub judge : (n : ℕ) (chip : LargeChip) → chipOf n ≡ Chip chip → Judged chip
-judge n chip e =
-    let v : Valid n chip = chip-valid n chip e in
+pub judge : (n size : ℕ) (chip : LargeChip) → chipOf n size ≡ Chip chip → Judged chip
+judge n size chip e =
+    let v : Valid n size chip = chip-valid n size chip e in
     record {
-      is-chip = ap chipOf (v .blocks) ∙ e;
+      is-chip = ap (λ (m : ℕ). chipOf m (chip .region)) (v .blocks) ∙ ap (chipOf n) (v .region) ∙ e;
       some-page = v .some-page;
-      fours = ap (λ (m : ℕ). m % 4) (v .blocks) ∙ v .fours;
-      within = omega (arith, v .blocks, v .region, v .least);
+      fours = ap (λ (m : ℕ). m % 4) (v .blocks) ∙ v .right-n .fours;
+      within = omega (arith, v .blocks, v .region, v .right-size);
     }
 
 -- ---- the two kinds of a copy

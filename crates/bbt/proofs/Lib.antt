@@ -19,6 +19,8 @@ pub mod Events
 pub mod PowerCuts
 -- a plan carried out uncut
 pub mod CarriedOut
+-- one chip with two sizes of its region
+pub mod Sizes
 -- that nothing is left out of the histories, that every settled table is a start, and two histories by number
 pub mod AllBytes
 pub mod Putting

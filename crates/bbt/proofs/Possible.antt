@@ -302,10 +302,10 @@ module _ {chip : LargeChip} where
   }
 
 pub nothing-left-out : NothingLeftOut
-nothing-left-out n chip e = record {
+nothing-left-out n size chip e = record {
   steps = λ {w} {r} {l} {c} {a} {i} {e = e′} {es} s h.
       let t = tracked (started s) h in
-      let p = demand3 n chip e .promise s h .next-step in
+      let p = demand3 n size chip e .promise s h .next-step in
       can-happen ok r l c a i e′ es (p .0) (p .1 .by-image) (bytes-next ok e′ t);
   plans = can-plan ok;
   refusals = λ r h l call x a. ((plan-refused call x a, refl), λ w c. must-refuse r h l call x w a c);
@@ -317,4 +317,4 @@ nothing-left-out n chip e = record {
 }
   where
     ok : Judged chip
-    ok = judge n chip e
+    ok = judge n size chip e

@@ -72,7 +72,7 @@ module _ {chip : LargeChip} (ok : Judged chip) where
       sound-settled ok (mode-sound ok m) (h .0) (h .1)
 
 pub demand3 : Demand3
-demand3 n chip e = record {
+demand3 n size chip e = record {
   promise = λ s h. promise ok (tracked (started s) h) (history ok (started s) (begin ok s .1) h .still);
   not-good-kept = λ s h k t t′ a b.
       let x = history ok (started s) (begin ok s .1) h in
@@ -83,4 +83,4 @@ demand3 n chip e = record {
 }
   where
     ok : Judged chip
-    ok = judge n chip e
+    ok = judge n size chip e

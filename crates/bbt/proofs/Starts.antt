@@ -113,10 +113,10 @@ module _ {chip : LargeChip} (ok : Judged chip) where
       (y .s, settled-reading (put-other (x .s) mirror-kind t m bytes len hm ne first) (put-sole (x .s) mirror-kind t m bytes len hm lacks))
 
 pub starts-anywhere : StartsAnywhere
-starts-anywhere n chip e = record {
+starts-anywhere n size chip e = record {
   there = settle ok;
   starts = λ r t h. settled-at h;
 }
   where
     ok : Judged chip
-    ok = judge n chip e
+    ok = judge n size chip e

@@ -43,4 +43,4 @@ pub record Ends (chip : LargeChip) : Type 0 where
       → reading chip (view u) ≡ holds p m (updated o wanted)
 
 abbrev pub EndsSettled : Type 0
-EndsSettled = (n : ℕ) (chip : LargeChip) → chipOf n ≡ Chip chip → Ends chip
+EndsSettled = (n size : ℕ) (chip : LargeChip) → chipOf n size ≡ Chip chip → Ends chip

@@ -1,5 +1,5 @@
--- Document 01: answers depend on N, the call's other arguments, the status bytes, and of well-read pages only the bitmap bytes, OOB 14-18, and
--- OOB 0 of a block's first page. Any other byte may change and no answer does.
+-- Document 01: answers depend on N, the region's size, the call's other arguments, the status bytes, and of well-read pages only the bitmap
+-- bytes, OOB 14-18, and OOB 0 of a block's first page. Any other byte may change and no answer does.
 use mathlib.Core.List.{List}
 use mathlib.Core.Path.{_≡_}
 use Prim.Native.Nat.{ℕ, _+_, _*_, _<_, _≤_}
@@ -29,10 +29,10 @@ pub record Alike (chip : LargeChip) (status x y : List ℕ) : Type 0 where
   pub mark : (b : ℕ) → WellRead chip status b 0 → byteIn chip x b 0 2048 ≡ byteIn chip y b 0 2048
 
 -- the answers of reading, planning and page images are the same
-pub record Depends (n : ℕ) (status x y : List ℕ) : Type 0 where
-  pub reads : (room : List ℕ) → tableReading n x status room ≡ tableReading n y status room
-  pub plans : (call : Call) → planned n call x status ≡ planned n call y status
-  pub images : (call : Call) (i : ℕ) → imaged n call x status i ≡ imaged n call y status i
+pub record Depends (n size : ℕ) (status x y : List ℕ) : Type 0 where
+  pub reads : (room : List ℕ) → tableReading n size x status room ≡ tableReading n size y status room
+  pub plans : (call : Call) → planned n size call x status ≡ planned n size call y status
+  pub images : (call : Call) (i : ℕ) → imaged n size call x status i ≡ imaged n size call y status i
 
 abbrev pub Dependence : Type 0
-Dependence = (n : ℕ) (chip : LargeChip) (status x y : List ℕ) → chipOf n ≡ Chip chip → Alike chip status x y → Depends n status x y
+Dependence = (n size : ℕ) (chip : LargeChip) (status x y : List ℕ) → chipOf n size ≡ Chip chip → Alike chip status x y → Depends n size status x y

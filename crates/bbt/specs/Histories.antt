@@ -94,10 +94,10 @@ module _ {chip : LargeChip} where
 
   -- the library's plan, and its page image of step i
   abbrev pub answer : Call → Snapshot chip → Answer
-  answer call a = planned (chip .blocks) call (a .from .image) (a .from .status)
+  answer call a = planned (chip .blocks) (chip .region) call (a .from .image) (a .from .status)
 
   abbrev pub asked : Call → Snapshot chip → ℕ → Imaged
-  asked call a i = imaged (chip .blocks) call (a .from .image) (a .from .status) i
+  asked call a i = imaged (chip .blocks) (chip .region) call (a .from .image) (a .from .status) i
 
   -- an event at region r, with a plan in hand, after the last update l
   pub data Event (r : Region chip) (l : Last) : Hand chip → World chip → Type 0 where

@@ -1,4 +1,4 @@
--- Document 01: what is lent to reading and planning, judged in its order: N, then lengths, then status bytes, then the rest.
+-- Document 01: what is lent to reading and planning, judged in its order: N and the region's size, then lengths, then status bytes, then the rest.
 use mathlib.Core.Bool.{Bool, true, cond, _&&_}
 use mathlib.Core.List.{List}
 use Prim.Native.Nat.{ℕ}
@@ -15,7 +15,7 @@ use Rattle.bbt.specs.Images.{Imaged, no-image, planImage}
 use Rattle.bbt.specs.Pages.{seen}
 use Rattle.bbt.specs.Plans.{Reading, refused, reading, Answer, refuse, Call, for-update, for-recovery, planByRules}
 
--- on the chip of N blocks, or N's refusal
+-- on the chip of N blocks with a region of its size, or their refusal
 abbrev pub onChip : {A : Type 0} → (Refusal → A) → ChipAnswer → (LargeChip → A) → A
 onChip out (Refused r) f = out r
 onChip out (Chip chip) f = f chip
@@ -38,8 +38,8 @@ lentReading chip image status room =
     judged refused (regionLent chip image status && eqb (length room) (bitmapBytes chip)) (statusesRight status)
     (reading chip (seen chip image status))
 
-unfoldable pub tableReading : ℕ → List ℕ → List ℕ → List ℕ → Reading
-tableReading n image status room = onChip refused (chipOf n) (λ chip. lentReading chip image status room)
+unfoldable pub tableReading : ℕ → ℕ → List ℕ → List ℕ → List ℕ → Reading
+tableReading n size image status room = onChip refused (chipOf n size) (λ chip. lentReading chip image status room)
 
 -- planning, with a wanted bitmap for an update
 abbrev pub callLent : LargeChip → Call → Bool
@@ -50,9 +50,9 @@ unfoldable pub lentPlan : LargeChip → Call → List ℕ → List ℕ → Answe
 lentPlan chip call image status =
     judged refuse (regionLent chip image status && callLent chip call) (statusesRight status) (planByRules chip (seen chip image status) call)
 
-unfoldable pub planned : ℕ → Call → List ℕ → List ℕ → Answer
-planned n call image status = onChip refuse (chipOf n) (λ chip. lentPlan chip call image status)
+unfoldable pub planned : ℕ → ℕ → Call → List ℕ → List ℕ → Answer
+planned n size call image status = onChip refuse (chipOf n size) (λ chip. lentPlan chip call image status)
 
 -- the page image of step i of the plan that planning gives
-unfoldable pub imaged : ℕ → Call → List ℕ → List ℕ → ℕ → Imaged
-imaged n call image status i = onChip no-image (chipOf n) (λ chip. planImage chip (lentPlan chip call image status) i)
+unfoldable pub imaged : ℕ → ℕ → Call → List ℕ → List ℕ → ℕ → Imaged
+imaged n size call image status i = onChip no-image (chipOf n size) (λ chip. planImage chip (lentPlan chip call image status) i)

@@ -13,4 +13,5 @@ pub mod PowerCuts
 pub mod CarriedOut
 pub mod Possible
 pub mod Starts
+pub mod Sizes
 pub mod Example

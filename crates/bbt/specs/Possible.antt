@@ -118,4 +118,4 @@ pub record Possible (chip : LargeChip) : Type 0 where
       → (p : ℕ) × (m : ℕ) × (o : Table) × (reading chip (view r) ≡ holds p m o)
 
 abbrev pub NothingLeftOut : Type 0
-NothingLeftOut = (n : ℕ) (chip : LargeChip) → chipOf n ≡ Chip chip → Possible chip
+NothingLeftOut = (n size : ℕ) (chip : LargeChip) → chipOf n size ≡ Chip chip → Possible chip

@@ -1,4 +1,5 @@
--- Demand 3, as document 01's "Histories" words it: one claim about the whole list of events, from any settled pair, for every N.
+-- Demand 3, as document 01's "Histories" words it: one claim about the whole list of events, from any settled pair, for every N and every
+-- size of the region.
 use mathlib.Core.Bool.{true, false}
 use mathlib.Core.List.{[], _∷_}
 use mathlib.Core.Logic.{_≢_}
@@ -18,7 +19,7 @@ use Rattle.bbt.specs.Plans.{Step, erase, write, Plan, plan, Call, for-up
 use Rattle.bbt.specs.Regions.{Region, view}
 use Rattle.bbt.specs.Told.{chipBlock, toldPlan, toldSteps, toldStep, nthStep}
 
--- N − 4 to N − 1
+-- the last blocks of the chip, as many as the region has: N − size to N − 1
 abbrev pub InRegion : LargeChip → ChipBlock → Type 0
 InRegion chip c = (chip .blocks - chip .region ≤ c .0) × (c .0 < chip .blocks)
 
@@ -93,4 +94,4 @@ pub record SafeUnderCuts (chip : LargeChip) : Type 0 where
       → Settled (regionOf u) t′ → NotGoodKept chip t t′
 
 abbrev pub Demand3 : Type 0
-Demand3 = (n : ℕ) (chip : LargeChip) → chipOf n ≡ Chip chip → SafeUnderCuts chip
+Demand3 = (n size : ℕ) (chip : LargeChip) → chipOf n size ≡ Chip chip → SafeUnderCuts chip

@@ -1,5 +1,5 @@
--- Demand 3 is about every N and every table: for each of them there is a settled pair, in any two of the region's blocks, and every
--- settled pair is a start.
+-- Demand 3 is about every N, every size of the region and every table: for each of them there is a settled pair, in any two of the region's
+-- blocks, and every settled pair is a start.
 use mathlib.Core.Logic.{_≢_}
 use mathlib.Core.Path.{_≡_}
 use Prim.Native.Nat.{ℕ, _<_}
@@ -25,4 +25,4 @@ pub record EverySettled (chip : LargeChip) : Type 0 where
   pub starts : (r : Region chip) (t : Table) → Settled r t → Start (world r empty (one-table t))
 
 abbrev pub StartsAnywhere : Type 0
-StartsAnywhere = (n : ℕ) (chip : LargeChip) → chipOf n ≡ Chip chip → EverySettled chip
+StartsAnywhere = (n size : ℕ) (chip : LargeChip) → chipOf n size ≡ Chip chip → EverySettled chip

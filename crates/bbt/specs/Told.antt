@@ -1,4 +1,4 @@
--- Plans and steps as the library tells them: with chip blocks, N − 4 to N − 1, and without the table.
+-- Plans and steps as the library tells them: with chip blocks, N − size to N − 1, and without the table.
 use mathlib.Core.Bool.{cond}
 use mathlib.Core.List.{List, [], _∷_, map}
 use mathlib.Core.Path.{_≡_}

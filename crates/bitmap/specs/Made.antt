@@ -17,17 +17,17 @@ use Rattle.bitmap.specs.declared.BitmapAnswer.the-variants.{Made, Refuse
 unfoldable pub marksLent : LargeChip → List ℕ → List ℕ → Bool
 marksLent chip marks room = eqb (length marks) (chip .blocks) && eqb (length room) (bitmapBytes chip)
 
--- N, then the lengths
-unfoldable pub firstAnswer : ℕ → List ℕ → List ℕ → BitmapAnswer
-firstAnswer n marks room = onChip Refused (chipOf n) (λ chip. cond (marksLent chip marks room) Made (Refused Length))
+-- N and the region's size, then the lengths
+unfoldable pub firstAnswer : ℕ → ℕ → List ℕ → List ℕ → BitmapAnswer
+firstAnswer n size marks room = onChip Refused (chipOf n size) (λ chip. cond (marksLent chip marks room) Made (Refused Length))
 
 -- the lent bytes after it: changed where the bitmap was made only
 abbrev pub firstBy : BitmapAnswer → List ℕ → List ℕ → List ℕ
 firstBy Made new old = new
 firstBy (Refused r) new old = old
 
-unfoldable pub firstAfter : ℕ → List ℕ → List ℕ → List ℕ
-firstAfter n marks room = firstBy (firstAnswer n marks room) (firstBitmap n marks) room
+unfoldable pub firstAfter : ℕ → ℕ → List ℕ → List ℕ → List ℕ
+firstAfter n size marks room = firstBy (firstAnswer n size marks room) (firstBitmap n marks) room
 
 -- the update rule changes no entry
 unfoldable pub newEqualsOld : List ℕ → List ℕ → Bool

@@ -21,12 +21,12 @@ pub enum BitmapAnswer {
     Refused(Refusal),
 }
 
-// The first bitmap of a chip of n blocks from their n marks: a mark of 0 gives 00, any other 11.
-pub fn first_bitmap(n: u64, marks: &[u8], bitmap: &mut [u8]) -> BitmapAnswer
-    ensures answer { λ r. ⌜ r ≡ firstAnswer n (now (marks .entry)) (now (bitmap .entry)) ⌝ }
-    ensures out { λ _. ⌜ now (bitmap .exit) ≡ firstAfter n (now (marks .entry)) (now (bitmap .entry)) ⌝ }
+// The first bitmap of a chip of n blocks, with a region of `size`, from their n marks: a mark of 0 gives 00, any other 11.
+pub fn first_bitmap(n: u64, size: u64, marks: &[u8], bitmap: &mut [u8]) -> BitmapAnswer
+    ensures answer { λ r. ⌜ r ≡ firstAnswer n size (now (marks .entry)) (now (bitmap .entry)) ⌝ }
+    ensures out { λ _. ⌜ now (bitmap .exit) ≡ firstAfter n size (now (marks .entry)) (now (bitmap .entry)) ⌝ }
 {
-    match LargeChip::new(n) {
+    match LargeChip::new(n, size) {
         ChipAnswer::Refused(r) => BitmapAnswer::Refused(r),
         ChipAnswer::Chip(chip) => made(chip, marks, bitmap),
     }

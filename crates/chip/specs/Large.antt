@@ -1,4 +1,4 @@
--- Document 01, "Large chip": the number of blocks N, the bitmap's bytes, its pages P, and the region's sizes.
+-- Document 01, "Large chip": the number of blocks N and of region blocks, the bitmap's bytes, its pages P, and the region's sizes.
 use mathlib.Core.Bool.{Bool, cond, _&&_}
 use Prim.Native.Nat.{ℕ, _+_, _*_, _/_, _%_}
 use lib.Dec.{eqb, leb}
@@ -11,9 +11,13 @@ use Rattle.chip.specs.declared.Refusal.the-variants.{Range}
 unfoldable pub isBlocks : ℕ → Bool
 isBlocks n = eqb (n % 4) 0 && leb 8 n && leb n 32768
 
--- the chip of N blocks, whose region is the last four, or refusal 2
-unfoldable pub chipOf : ℕ → ChipAnswer
-chipOf n = cond (isBlocks n) (Chip (record { blocks = n; region = 4 })) (Refused Range)
+-- the region's size is 4 to 7 blocks, and N is not below twice it
+unfoldable pub isRegion : ℕ → ℕ → Bool
+isRegion n size = leb 4 size && leb size 7 && leb (2 * size) n
+
+-- the chip of N blocks, whose region is the last `size` of them, or refusal 2
+unfoldable pub chipOf : ℕ → ℕ → ChipAnswer
+chipOf n size = cond (isBlocks n && isRegion n size) (Chip (record { blocks = n; region = size })) (Refused Range)
 
 -- the bitmap has N/4 bytes
 abbrev pub bitmapBytes : LargeChip → ℕ

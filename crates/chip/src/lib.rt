@@ -1,7 +1,7 @@
 // The two kinds of chip with their sizes, the numbers that must not be mixed, and the refusals.
 ghost use mathlib.Core.Path.{_≡_};
 ghost use Rattle.chip.specs.Boot.{pathOf, bootOf};
-ghost use Rattle.chip.specs.Large.{chipOf, bitmapBytes, pagesOf, regionPages, regionBytes};
+ghost use Rattle.chip.specs.Large.{isBlocks, isRegion, chipOf, bitmapBytes, pagesOf, regionPages, regionBytes};
 ghost use Rattle.chip.specs.Refusals.{refusalNumber, refusalDetail};
 
 // The small chip: 512 data bytes and 16 spare bytes a page, in two halves with a code of three bytes each.
@@ -50,7 +50,7 @@ pub struct LargeChip {
     pub region: u8,
 }
 
-// A large chip, or the refusal of its number of blocks.
+// A large chip, or the refusal of its numbers of blocks.
 pub enum ChipAnswer {
     Chip(LargeChip),
     Refused(Refusal),
@@ -68,29 +68,27 @@ impl LargeChip {
 
     pub const VERSION: usize = LargeChip::PAGE + 18;
 
-    pub const REGION: u8 = 4;
+    pub const SMALLEST_REGION: u64 = 4;
+
+    pub const LARGEST_REGION: u64 = 7;
 
     pub const FEWEST_BLOCKS: u64 = 8;
 
     pub const MOST_BLOCKS: u64 = 32768;
 
-    // The chip of n blocks: a multiple of 4 from 8 to 32,768.
-    pub fn new(n: u64) -> ChipAnswer
-        ensures { λ r. ⌜ r ≡ chipOf n ⌝ }
+    // The chip of n blocks, of which the last `size` are the region.
+    pub fn new(n: u64, size: u64) -> ChipAnswer
+        ensures { λ r. ⌜ r ≡ chipOf n size ⌝ }
     {
-        if n % 4 != 0 {
-            return ChipAnswer::Refused(Refusal::Range);
+        if is_blocks(n) {
+            if is_region(n, size) {
+                return ChipAnswer::Chip(LargeChip {
+                    blocks: n as u16,
+                    region: size as u8,
+                });
+            }
         }
-        if n < LargeChip::FEWEST_BLOCKS {
-            return ChipAnswer::Refused(Refusal::Range);
-        }
-        if LargeChip::MOST_BLOCKS < n {
-            return ChipAnswer::Refused(Refusal::Range);
-        }
-        ChipAnswer::Chip(LargeChip {
-            blocks: n as u16,
-            region: LargeChip::REGION,
-        })
+        ChipAnswer::Refused(Refusal::Range)
     }
 
     // The bytes of the bitmap: two bits a block.
@@ -120,6 +118,30 @@ impl LargeChip {
     {
         self.region_pages() * LargeChip::PAGE_WITH_OOB
     }
+}
+
+// Can a large chip have n blocks: a multiple of 4 from 8 to 32,768?
+fn is_blocks(n: u64) -> bool
+    ensures { λ r. ⌜ r ≡ isBlocks n ⌝ }
+{
+    if n % 4 == 0 {
+        if LargeChip::FEWEST_BLOCKS <= n {
+            return n <= LargeChip::MOST_BLOCKS;
+        }
+    }
+    false
+}
+
+// Can `size` of its n blocks be the region: 4 to 7, and at most half?
+fn is_region(n: u64, size: u64) -> bool
+    ensures { λ r. ⌜ r ≡ isRegion n size ⌝ }
+{
+    if LargeChip::SMALLEST_REGION <= size {
+        if size <= LargeChip::LARGEST_REGION {
+            return 2 * size <= n;
+        }
+    }
+    false
 }
 
 // The number of a boot block, as a path tells it. Never a chip block's number.

@@ -21,10 +21,10 @@ use Rattle.region.proofs.Bridge.{read-bridged}
 use Rattle.region.specs.Tables.{toldReading, roomBy}
 use Rattle.region.specs.declared.TableAnswer.{TableAnswer}
 use Rattle.reamsickle.specs.LargeBoundary.{tableCodeBy, stepsPut, planCodeBy, stepsPutBy, imageCodeBy}
-use Rattle.claims.specs.Blocks.{TableBelow}
+use Rattle.claims.specs.Blocks.{TableInRegion}
 use Rattle.claims.specs.Driver.{versionIn, primaryIn, mirrorIn, stepByte, readTold}
 use Rattle.claims.specs.Found.{PlanFound, TableFound, BridgeToC}
-use Rattle.claims.proofs.Blocks.{blocks-below}
+use Rattle.claims.proofs.Blocks.{blocks-in-region}
 use Rattle.claims.proofs.Found.{step-byte, as-many, plan-told, steps-told, plan-answered, version-told, count-told, filled, page-answered, page-filled, read-told, bitmap-told, code-read, read-answered, table-told}
 
 -- the blocks in an answer: bits 16 to 31, and 32 to 47
@@ -56,21 +56,21 @@ module _ {chip : LargeChip} (ok : Judged chip) (few : chip .blocks ≤ 32768) (r
   table-found : (p m : ℕ) (t : Table) (room : List ℕ) → length room ≡ bitmapBytes chip → reading chip (view r) ≡ holds p m t → TableFound r p m t room
   table-found p m t room long e =
       let told = table-told ok r room long p m t e in
-      let answer = read-bridged (chip .blocks) chip r (ok .is-chip) .answers room long ∙ ap (toldReading chip) e in
-      let below = subst (λ (a : TableAnswer). TableBelow (chip .blocks) a) answer (blocks-below (chip .blocks) (r .image) (r .status) .tables room) in
+      let answer = read-bridged (chip .blocks) (chip .region) chip r (ok .is-chip) .answers room long ∙ ap (toldReading chip) e in
+      let inside = subst (λ (a : TableAnswer). TableInRegion chip a) answer (blocks-in-region (chip .blocks) (chip .region) (r .image) (r .status) .tables room) in
       let code = code-read ok r room long p m t e in
       let version : versionIn (readTold r room) ≡ t .version = ap (λ (x : Table). x .version) told in
       let byte : t .version < 256 = subst (λ (v : ℕ). v < 256) version (omega arith) in
       record {
         answered = read-answered ok r room long p m t e;
         version = version;
-        primary = ap primaryIn code ∙ primary-in (t .version) (chipBlock chip p .0) (chipBlock chip m .0) byte (omega (arith, below .0)) (omega (arith, below .1));
-        mirror = ap mirrorIn code ∙ mirror-in (t .version) (chipBlock chip p .0) (chipBlock chip m .0) byte (omega (arith, below .0)) (omega (arith, below .1));
+        primary = ap primaryIn code ∙ primary-in (t .version) (chipBlock chip p .0) (chipBlock chip m .0) byte (omega (arith, inside .0)) (omega (arith, inside .1));
+        mirror = ap mirrorIn code ∙ mirror-in (t .version) (chipBlock chip p .0) (chipBlock chip m .0) byte (omega (arith, inside .0)) (omega (arith, inside .1));
         bitmap = ap (λ (x : Table). x .bitmap) told;
       }
 
 pub bridge-to-c : BridgeToC
-bridge-to-c n chip is r = record {
+bridge-to-c n size chip is r = record {
   plans = plan-found ok few r;
   no-plan = λ call x steps long e. (
     plan-told ok r call steps long ∙ ap (λ (a : Answer). planCodeBy (toldAnswer chip a)) e,
@@ -92,7 +92,7 @@ bridge-to-c n chip is r = record {
 }
   where
     ok : Judged chip
-    ok = judge n chip is
+    ok = judge n size chip is
 
     few : chip .blocks ≤ 32768
-    few = let v = chip-valid n chip is in omega arith
+    few = let v = chip-valid n size chip is in omega arith

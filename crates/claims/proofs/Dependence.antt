@@ -8,13 +8,13 @@ use Rattle.claims.specs.Dependence.{DependenceInC}
 
 pub dependence-in-c : DependenceInC
 unfolding tableCode imageCode
-dependence-in-c n status x y alike =
-    let same = public-dependence n status x y alike in
+dependence-in-c n size status x y alike =
+    let same = public-dependence n size status x y alike in
     record {
       tables = λ room. ap tableCodeBy (same .tables room);
       bitmaps = same .bitmaps;
-      plans = λ call room. ap (λ (a : PlanAnswer). planCode n a room) (same .plans call);
-      steps = λ call room. ap (λ (a : PlanAnswer). stepsAfter n a room) (same .plans call);
+      plans = λ call room. ap (λ (a : PlanAnswer). planCode n size a room) (same .plans call);
+      steps = λ call room. ap (λ (a : PlanAnswer). stepsAfter a room) (same .plans call);
       images = λ call i room. ap imageCodeBy (same .images call i room);
       pages = same .pages;
     }

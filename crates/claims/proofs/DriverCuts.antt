@@ -296,16 +296,16 @@ module _ {chip : LargeChip} (ok : Judged chip) (few : chip .blocks ≤ 32768) (s
       (read-settled ok r x (hx .0) (hx .1)) (read-settled ok t y (hy .0) (hy .1))
 
 pub demand3-in-c : Demand3InC
-demand3-in-c n chip e = record {
+demand3-in-c n size chip e = record {
   promise = λ {w} {v} s h. let b = begin ok few safe s in promise ok few safe (b .1) v (history ok few safe (b .1) (b .2) h);
   not-good-kept = λ {w} {v} {u} s h k x y hx hy. let b = begin ok few safe s in kept-on ok few safe v u (b .1) (history ok few safe (b .1) (b .2) h) k x y hx hy;
 }
   where
     ok : Judged chip
-    ok = judge n chip e
+    ok = judge n size chip e
 
     few : chip .blocks ≤ 32768
-    few = let v = chip-valid n chip e in omega arith
+    few = let v = chip-valid n size chip e in omega arith
 
     safe : SafeUnderCuts chip
-    safe = demand3 n chip e
+    safe = demand3 n size chip e

@@ -162,14 +162,14 @@ same-hand _ _ neither = tt
 same-hand _ _ (both q room e f c m) = (refl, refl, refl, m)
 
 pub nothing-left-out-in-c : NothingLeftOutInC
-nothing-left-out-in-c n chip e _ (world t h l) (settled-at {r} {t = o} settled) past =
+nothing-left-out-in-c n size chip e _ (world t h l) (settled-at {r} {t = o} settled) past =
     let w = world r empty (one-table o) in
     let v = at r nothing (one-table o) in
-    let d = history ok few (demand3 n chip e) v (w, settled-at settled, start) start (record { hand = nothing; follows = neither; so-far = at-start }) past in
+    let d = history ok few (demand3 n size chip e) v (w, settled-at settled, start) start (record { hand = nothing; follows = neither; so-far = at-start }) past in
     (begins ok settled, d .hand, same-hand (d .hand) h (d .follows), d .so-far)
   where
     ok : Judged chip
-    ok = judge n chip e
+    ok = judge n size chip e
 
     few : chip .blocks ≤ 32768
-    few = let v = chip-valid n chip e in omega arith
+    few = let v = chip-valid n size chip e in omega arith

@@ -171,11 +171,11 @@ module _ {chip : LargeChip} (ok : Judged chip) (r : Region chip) where
   module _ (call : Call) (room : List ℕ) (long : length room ≡ 64) where
     pub plan-told : planTold call r room ≡ planCodeBy (toldAnswer chip (answer call (snapshot r)))
     unfolding planCode
-    plan-told = rw (ok .is-chip, eq-eqb (length room) 64 long) (ap planCodeBy (bridged (chip .blocks) chip call (r .image) (r .status) (ok .is-chip) .plans))
+    plan-told = rw (eq-eqb (length room) 64 long) (ap planCodeBy (bridged (chip .blocks) (chip .region) chip call (r .image) (r .status) (ok .is-chip) .plans))
 
     pub steps-told : stepsTold call r room ≡ stepsPutBy (toldAnswer chip (answer call (snapshot r))) room
     unfolding stepsAfter
-    steps-told = rw (ok .is-chip, eq-eqb (length room) 64 long) (ap (λ a. stepsPutBy a room) (bridged (chip .blocks) chip call (r .image) (r .status) (ok .is-chip) .plans))
+    steps-told = rw (eq-eqb (length room) 64 long) (ap (λ a. stepsPutBy a room) (bridged (chip .blocks) (chip .region) chip call (r .image) (r .status) (ok .is-chip) .plans))
 
     pub refused-told : (x : Refusal) → answer call (snapshot r) ≡ refuse x → refusalIn (planTold call r room) ≢ 0
     refused-told x e z =
@@ -189,8 +189,8 @@ module _ {chip : LargeChip} (ok : Judged chip) (r : Region chip) where
 
       few-steps : 4 * length (stepsOf (pagesOf chip) q) ≤ 64
       few-steps =
-          let told = bridged (chip .blocks) chip call (r .image) (r .status) (ok .is-chip) .plans ∙ ap (toldAnswer chip) e in
-          let room = subst (λ a. roomOf a ≤ 64) told (plan-room (chip .blocks) call (r .image) (r .status)) in
+          let told = bridged (chip .blocks) (chip .region) chip call (r .image) (r .status) (ok .is-chip) .plans ∙ ap (toldAnswer chip) e in
+          let room = subst (λ a. roomOf a ≤ 64) told (plan-room (chip .blocks) (chip .region) call (r .image) (r .status)) in
           omega (arith, as-many chip q)
 
       -- answered, with the version and the number of steps
@@ -209,19 +209,19 @@ module _ {chip : LargeChip} (ok : Judged chip) (r : Region chip) where
   -- the page of a step
   pub page-answered : (call : Call) (i : ℕ) (page : List ℕ) → length page ≡ 2112 → imageTold call r i page ≡ imageCodeBy (imageAnswerBy (asked call (snapshot r) i))
   unfolding imageCode
-  page-answered call i page h = ap imageCodeBy (bridged (chip .blocks) chip call (r .image) (r .status) (ok .is-chip) .answers i page h)
+  page-answered call i page h = ap imageCodeBy (bridged (chip .blocks) (chip .region) chip call (r .image) (r .status) (ok .is-chip) .answers i page h)
 
   pub page-filled : (call : Call) (i : ℕ) (page : List ℕ) → length page ≡ 2112 → pageTold call r i page ≡ imageAfterBy (asked call (snapshot r) i) page
-  page-filled call i page h = bridged (chip .blocks) chip call (r .image) (r .status) (ok .is-chip) .pages i page h
+  page-filled call i page h = bridged (chip .blocks) (chip .region) chip call (r .image) (r .status) (ok .is-chip) .pages i page h
 
   -- the table
   module _ (room : List ℕ) (long : length room ≡ bitmapBytes chip) where
     pub read-told : readTold r room ≡ tableCodeBy (toldReading chip (reading chip (view r)))
     unfolding tableCode
-    read-told = ap tableCodeBy (read-bridged (chip .blocks) chip r (ok .is-chip) .answers room long)
+    read-told = ap tableCodeBy (read-bridged (chip .blocks) (chip .region) chip r (ok .is-chip) .answers room long)
 
     pub bitmap-told : bitmapTold r room ≡ roomBy (reading chip (view r)) room
-    bitmap-told = read-bridged (chip .blocks) chip r (ok .is-chip) .bitmaps room long
+    bitmap-told = read-bridged (chip .blocks) (chip .region) chip r (ok .is-chip) .bitmaps room long
 
     module _ (p m : ℕ) (t : Table) (e : reading chip (view r) ≡ holds p m t) where
       pub code-read : readTold r room ≡ 256 * t .version + 65536 * (chipBlock chip p .0 % 65536) + 4294967296 * (chipBlock chip m .0 % 65536)

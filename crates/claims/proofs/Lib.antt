@@ -6,3 +6,4 @@ pub mod Found
 pub mod DriverCuts
 pub mod DriverReach
 pub mod BridgeToC
+pub mod Sizes

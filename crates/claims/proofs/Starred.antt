@@ -4,19 +4,26 @@ use mathlib.Core.List.{List}
 use mathlib.Core.Path.{_≡_, refl}
 use Prim.Native.Nat.{ℕ}
 use lib.Count.{ones, onesIn}
-use Rattle.bbt.specs.Pairs.{signedOf, difference, bothCase, compared}
-use Rattle.bbt.specs.Plans.{recoverCase}
+use Rattle.bbt.specs.Copies.{all, also, find, good, isPage, pagePart, pageVersion, parts, table as bitmapTable}
+use Rattle.bbt.specs.Images.{chunk, imageData, imageTail, partImage, pageImage}
+use Rattle.bbt.specs.Lent.{regionLent, statusesRight, lentReading, tableReading}
+use Rattle.bbt.specs.Pages.{badPage, kindOf, kindOfWord, pageBytes, pageOf, sameKind, seen}
+use Rattle.bbt.specs.Pairs.{same, signedOf, difference, bothCase, compared, caseOf, pairCase}
+use Rattle.bbt.specs.Plans.{readCase, reading, recoverCase}
 use Rattle.bits.specs.Bits.{bit, number, parityOf}
 use Rattle.bits.specs.Bytes.{wordBytes}
 use Rattle.chip.specs.Boot.{pathOf}
+use Rattle.chip.specs.Large.{chipOf, isBlocks, isRegion}
 use Rattle.ecc.specs.Half.{placeBit, counts, parity, codeBit, codeFrom}
 use Rattle.hamming.specs.Word.{notPowers, houseNumbers, checkBit, checkBits, encoded}
-use Rattle.claims.specs.Examples.{Holds, path, count, no-tag, All, table}
+use Rattle.claims.specs.Examples.{Holds, path, count, no-tag, All, sizes, lastBlocks, table}
 use Rattle.spare.specs.Reading.{spareAnswer}
 use Rattle.spare.specs.Tags.{tags, nearest}
 use Rattle.spare.specs.Writing.{spareOf, magicAndCount}
 use Rattle.spare.specs.declared.NearestTag.the-variants.{Missing}
+use Rattle.region.specs.Tables.{tableAnswer}
 use Rattle.reamsickle.specs.Boundary.{spareCode}
+use Rattle.reamsickle.specs.LargeBoundary.{tableCode}
 use borrow.Author.Tests.{eq-eqb}
 use lib.ListN.{length}
 
@@ -33,7 +40,11 @@ unfolding spareCode spareAnswer
 no-tag-refused b e s fields long lf good at =
     rw (eq-eqb (length fields) 11 lf, eq-eqb (length s) 16 long, good, at, e) refl
 
+by-size : All sizes
+unfolding tableCode tableAnswer tableReading lentReading regionLent statusesRight chipOf isBlocks isRegion lastBlocks reading readCase pairCase caseOf compared bothCase difference signedOf find also good all isPage sameKind pageVersion seen pageOf badPage pageBytes kindOf kindOfWord same pageImage partImage imageData imageTail chunk bitmapTable parts pagePart
+by-size = (refl, (refl, (refl, (refl, tt))))
+
 pub starred : All table
 unfolding recoverCase signedOf difference bothCase compared bit number parityOf ones onesIn pathOf placeBit counts parity codeBit codeFrom notPowers houseNumbers checkBit checkBits encoded nearest
 starred =
-    (refl, (refl, (refl, (refl, (path-bytes 0 _ refl, (path-bytes 1 _ refl, (refl, (path-bytes 6 _ refl, (count-bytes 1 _ refl, (refl, (refl, (no-tag-refused _ refl, (refl, (refl, (refl, ((λ chip R x y p m. refl), tt))))))))))))))))
+    (refl, (refl, (refl, (refl, (path-bytes 0 _ refl, (path-bytes 1 _ refl, (refl, (path-bytes 6 _ refl, (count-bytes 1 _ refl, (refl, (refl, (no-tag-refused _ refl, (refl, (refl, (refl, ((λ chip R x y p m. refl), by-size))))))))))))))))

@@ -1,5 +1,5 @@
--- Document 01: "Any other byte may change and no answer does", of the C entries that take a region image: for every N, refused ones too, every
--- answer and every lent byte after the call.
+-- Document 01: "Any other byte may change and no answer does", of the C entries that take a region image: for every N and size of
+-- the region, refused ones too, every answer and every lent byte after the call.
 use mathlib.Core.List.{List}
 use mathlib.Core.Path.{_≡_}
 use Prim.Native.Nat.{ℕ}
@@ -14,13 +14,13 @@ use Rattle.region.specs.Tables.{tableAfter}
 use Rattle.reamsickle.specs.LargeBoundary.{tableCode, planCode, stepsAfter, imageCode}
 
 -- of images x and y under the same status bytes: ream_table_read, the plan entries, the page entries
-pub record SameInC (n : ℕ) (status x y : List ℕ) : Type 0 where
-  pub tables : (room : List ℕ) → tableCode n x status room ≡ tableCode n y status room
-  pub bitmaps : (room : List ℕ) → tableAfter n x status room ≡ tableAfter n y status room
-  pub plans : (call : Call) (room : List ℕ) → planCode n (planAnswer n call x status) room ≡ planCode n (planAnswer n call y status) room
-  pub steps : (call : Call) (room : List ℕ) → stepsAfter n (planAnswer n call x status) room ≡ stepsAfter n (planAnswer n call y status) room
-  pub images : (call : Call) (i : ℕ) (room : List ℕ) → imageCode n call x status i room ≡ imageCode n call y status i room
-  pub pages : (call : Call) (i : ℕ) (room : List ℕ) → imageAfter n call x status i room ≡ imageAfter n call y status i room
+pub record SameInC (n size : ℕ) (status x y : List ℕ) : Type 0 where
+  pub tables : (room : List ℕ) → tableCode n size x status room ≡ tableCode n size y status room
+  pub bitmaps : (room : List ℕ) → tableAfter n size x status room ≡ tableAfter n size y status room
+  pub plans : (call : Call) (room : List ℕ) → planCode n size (planAnswer n size call x status) room ≡ planCode n size (planAnswer n size call y status) room
+  pub steps : (call : Call) (room : List ℕ) → stepsAfter (planAnswer n size call x status) room ≡ stepsAfter (planAnswer n size call y status) room
+  pub images : (call : Call) (i : ℕ) (room : List ℕ) → imageCode n size call x status i room ≡ imageCode n size call y status i room
+  pub pages : (call : Call) (i : ℕ) (room : List ℕ) → imageAfter n size call x status i room ≡ imageAfter n size call y status i room
 
 abbrev pub DependenceInC : Type 0
-DependenceInC = (n : ℕ) (status x y : List ℕ) → ((chip : LargeChip) → chipOf n ≡ Chip chip → Alike chip status x y) → SameInC n status x y
+DependenceInC = (n size : ℕ) (status x y : List ℕ) → ((chip : LargeChip) → chipOf n size ≡ Chip chip → Alike chip status x y) → SameInC n size status x y

@@ -63,24 +63,24 @@ module _ {chip : LargeChip} where
   -- ---- the entries on a region of a chip: their answers, and the lent bytes afterwards
   -- ream_update_plan, ream_recovery_plan
   abbrev pub planTold : Call → Region chip → List ℕ → ℕ
-  planTold call r steps = planCode (chip .blocks) (planAnswer (chip .blocks) call (r .image) (r .status)) steps
+  planTold call r steps = planCode (chip .blocks) (chip .region) (planAnswer (chip .blocks) (chip .region) call (r .image) (r .status)) steps
 
   abbrev pub stepsTold : Call → Region chip → List ℕ → List ℕ
-  stepsTold call r steps = stepsAfter (chip .blocks) (planAnswer (chip .blocks) call (r .image) (r .status)) steps
+  stepsTold call r steps = stepsAfter (planAnswer (chip .blocks) (chip .region) call (r .image) (r .status)) steps
 
   -- ream_update_page, ream_recovery_page
   abbrev pub imageTold : Call → Region chip → ℕ → List ℕ → ℕ
-  imageTold call r i page = imageCode (chip .blocks) call (r .image) (r .status) i page
+  imageTold call r i page = imageCode (chip .blocks) (chip .region) call (r .image) (r .status) i page
 
   abbrev pub pageTold : Call → Region chip → ℕ → List ℕ → List ℕ
-  pageTold call r i page = imageAfter (chip .blocks) call (r .image) (r .status) i page
+  pageTold call r i page = imageAfter (chip .blocks) (chip .region) call (r .image) (r .status) i page
 
   -- ream_table_read: its answer, the bitmap, and both as a table
   abbrev pub readTold : Region chip → List ℕ → ℕ
-  readTold r room = tableCode (chip .blocks) (r .image) (r .status) room
+  readTold r room = tableCode (chip .blocks) (chip .region) (r .image) (r .status) room
 
   abbrev pub bitmapTold : Region chip → List ℕ → List ℕ
-  bitmapTold r room = tableAfter (chip .blocks) (r .image) (r .status) room
+  bitmapTold r room = tableAfter (chip .blocks) (chip .region) (r .image) (r .status) room
 
   abbrev pub tableTold : Region chip → List ℕ → Table
   tableTold r room = record { version = versionIn (readTold r room); bitmap = bitmapTold r room }

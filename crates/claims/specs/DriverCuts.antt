@@ -15,7 +15,7 @@ use Rattle.chip.specs.declared.ChipAnswer.the-variants.{Chip}
 use Rattle.chip.specs.declared.LargeChip.{LargeChip}
 use Rattle.claims.specs.Driver.{refusalIn, DriverStep, erases, writes, driverStep, planTold, imageTold, readTold, tableTold, placeOf, DriverHand, nothing, doing, DriverWorld, at, DriverHistory}
 
--- the chip block that a step names is one of N − 4 to N − 1
+-- the chip block that a step names is one of N − size to N − 1
 abbrev pub BlockInRegion : LargeChip → ℕ → Type 0
 BlockInRegion chip c = (chip .blocks - chip .region ≤ c) × (c < chip .blocks)
 
@@ -61,7 +61,7 @@ pub record DriverSafe (chip : LargeChip) : Type 0 where
       → Answers (regionAt v) x → Answers (regionAt u) y → NotGoodKept chip (tableTold (regionAt v) x) (tableTold (regionAt u) y)
 
 abbrev pub Demand3InC : Type 0
-Demand3InC = (n : ℕ) (chip : LargeChip) → chipOf n ≡ Chip chip → DriverSafe chip
+Demand3InC = (n size : ℕ) (chip : LargeChip) → chipOf n size ≡ Chip chip → DriverSafe chip
 
 -- ---- nothing is left out
 module _ {chip : LargeChip} where
@@ -78,4 +78,4 @@ module _ {chip : LargeChip} where
       DriverStart (at r nothing m) × (d : DriverHand chip) × SameHand d h × DriverHistory (at r nothing m) (at s d l)
 
 abbrev pub NothingLeftOutInC : Type 0
-NothingLeftOutInC = (n : ℕ) (chip : LargeChip) → chipOf n ≡ Chip chip → (w v : World chip) → Start w → History w v → DriverReaches w v
+NothingLeftOutInC = (n size : ℕ) (chip : LargeChip) → chipOf n size ≡ Chip chip → (w v : World chip) → Start w → History w v → DriverReaches w v

@@ -1,14 +1,19 @@
--- Document 01, "Examples by number": those with a star, as one statement over one table.
-use mathlib.Core.List.{List, [], _∷_}
+-- Document 01, "Examples by number": those with a star, as one statement over one table; and pairs that a region of one size holds and of
+-- another does not.
+use mathlib.Core.Bool.{cond}
+use mathlib.Core.List.{List, [], _∷_, _++_}
 use mathlib.Core.Path.{_≡_}
-use Prim.Native.Nat.{ℕ}
+use Prim.Native.Nat.{ℕ, zero, suc, _+_, _*_, _-_}
+use lib.Dec.{eqb}
 use lib.IntN.{ℤ, pos}
 use lib.ListN.{length, getD, replicate, set, take}
 use Rattle.bbt.specs.Copies.{Table}
 use Rattle.bbt.specs.Entries.{entryOf}
+use Rattle.bbt.specs.Images.{pageImage}
 use Rattle.bbt.specs.Pages.{View}
 use Rattle.bbt.specs.Pairs.{difference, compared}
 use Rattle.bbt.specs.Plans.{refuse, recoverCase}
+use Rattle.bbt.specs.declared.Kind.the-variants.{Primary, Mirror}
 use Rattle.chip.specs.Boot.{pathOf}
 use Rattle.chip.specs.declared.LargeChip.{LargeChip}
 use Rattle.chip.specs.declared.PathAnswer.the-variants.{Path}
@@ -20,6 +25,7 @@ use Rattle.spare.specs.Status.{statusOf}
 use Rattle.spare.specs.declared.NearestTag.the-variants.{Found}
 use Rattle.spare.specs.declared.Status.the-variants.{Good}
 use Rattle.reamsickle.specs.Boundary.{codeBytes, spareCode}
+use Rattle.reamsickle.specs.LargeBoundary.{tableCode}
 
 -- what is given, and what comes of it
 pub data Example : Type 0 where
@@ -41,6 +47,8 @@ pub data Example : Type 0 where
   versions : ℕ → ℕ → ℤ → Example
   -- the versions of primary and mirror for which recovery answers refusal 9
   opposite : ℕ → ℕ → Example
+  -- the chip blocks of primary and mirror, a size of the region, and what ream_table_read answers
+  pair : ℕ → ℕ → ℕ → ℕ → Example
 
 abbrev pub countBytes : List ℕ → List ℕ
 countBytes s = getD s 6 0 ∷ getD s 7 0 ∷ getD s 11 0 ∷ getD s 12 0 ∷ []
@@ -50,6 +58,20 @@ fourEntries bitmap = entryOf bitmap 0 ∷ entryOf bitmap 1 ∷ entryOf bitmap 2 
 
 abbrev pub versioned : ℕ → List ℕ → Table
 versioned v bitmap = record { version = v; bitmap = bitmap }
+
+-- the table of a pair on a chip of 16 blocks, all of them good
+abbrev pub allGood : Table
+allGood = versioned 1 (replicate 4 0xFF)
+
+-- a block that holds the primary, the mirror, or nothing: P is 1
+abbrev pub blockOf : ℕ → ℕ → ℕ → List ℕ
+blockOf primary mirror b =
+    cond (eqb b primary) (pageImage Primary allGood 0) (cond (eqb b mirror) (pageImage Mirror allGood 0) (replicate 2112 0xFF))
+
+-- the image of the last blocks of such a chip, as many as the region has
+unfoldable pub lastBlocks : ℕ → ℕ → ℕ → List ℕ
+lastBlocks primary mirror zero = []
+lastBlocks primary mirror (suc k) = blockOf primary mirror (15 - k) ++ lastBlocks primary mirror k
 
 -- an example holds; of a path or a count whatever else is written with it, of a tag that is none whatever else a spare of a good block holds, of two versions whatever the bitmaps and the blocks
 abbrev pub Holds : Example → Type 0
@@ -62,10 +84,20 @@ Holds (no-tag b refusal) = (s fields : List ℕ) → length s ≡ 16 → length 
 Holds (entries byte es) = fourEntries (byte ∷ []) ≡ es
 Holds (versions p m d) = difference p m ≡ d
 Holds (opposite v w) = (chip : LargeChip) (R : View) (x y : List ℕ) (p m : ℕ) → recoverCase chip R (compared (versioned v x) (versioned w y) p m) ≡ refuse Opposite
+Holds (pair primary mirror size answer) = tableCode 16 size (lastBlocks primary mirror size) (replicate size 0) (replicate 4 0) ≡ answer
 
 abbrev pub All : List Example → Type 0
 All [] = Unit {0}
 All (x ∷ xs) = Holds x × All xs
+
+-- a table lying below the stated region is not found: of one copy there, a region of 4 finds the other alone, of two none
+abbrev pub sizes : List Example
+sizes =
+    pair 11 12 5 (0x100 + 0x10000 * 11 + 0x100000000 * 12)
+    ∷ pair 11 12 4 10
+    ∷ pair 10 11 6 (0x100 + 0x10000 * 10 + 0x100000000 * 11)
+    ∷ pair 10 11 4 7
+    ∷ []
 
 abbrev pub table : List Example
 table =
@@ -85,4 +117,4 @@ table =
     ∷ versions 0 255 (pos 1)
     ∷ versions 128 127 (pos 1)
     ∷ opposite 5 133
-    ∷ []
+    ∷ sizes

@@ -51,4 +51,4 @@ module _ {chip : LargeChip} (r : Region chip) where
         → (readTold r room ≡ refusalCode x) × (bitmapTold r room ≡ room)
 
 abbrev pub BridgeToC : Type 0
-BridgeToC = (n : ℕ) (chip : LargeChip) → chipOf n ≡ Chip chip → (r : Region chip) → Finds r
+BridgeToC = (n size : ℕ) (chip : LargeChip) → chipOf n size ≡ Chip chip → (r : Region chip) → Finds r

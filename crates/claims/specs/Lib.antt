@@ -5,3 +5,4 @@ pub mod Dependence
 pub mod Driver
 pub mod Found
 pub mod DriverCuts
+pub mod Sizes

@@ -23,64 +23,64 @@ use Rattle.region.specs.Cases.{lentCase}
 use Rattle.region.specs.declared.Beside.the-variants.{Nothing, Bitmap}
 use Rattle.region.specs.declared.LentCase.the-variants.{Case as TheCase, Refused as NoCase}
 
-module _ (call : Call) (n : ℕ) (image status : List ℕ) where
-  planned-out : (r : Refusal) → lentCase n (besideOf call) image status ≡ NoCase r → planned n call image status ≡ refuse r
+module _ (call : Call) (n size : ℕ) (image status : List ℕ) where
+  planned-out : (r : Refusal) → lentCase n size (besideOf call) image status ≡ NoCase r → planned n size call image status ≡ refuse r
   unfolding planned lentPlan
   planned-out r e = go call e
     where
-      go : (call : Call) → lentCase n (besideOf call) image status ≡ NoCase r → planned n call image status ≡ refuse r
-      go (for-update w) e = judged-out n (Bitmap (length w)) image status refuse (λ chip. planByRules chip (seen chip image status) (for-update w)) r e
-      go for-recovery e = judged-out n Nothing image status refuse (λ chip. planByRules chip (seen chip image status) for-recovery) r e
+      go : (call : Call) → lentCase n size (besideOf call) image status ≡ NoCase r → planned n size call image status ≡ refuse r
+      go (for-update w) e = judged-out n size (Bitmap (length w)) image status refuse (λ chip. planByRules chip (seen chip image status) (for-update w)) r e
+      go for-recovery e = judged-out n size Nothing image status refuse (λ chip. planByRules chip (seen chip image status) for-recovery) r e
 
-  planned-case : (chip : LargeChip) (c : PairCase) → lentCase n (besideOf call) image status ≡ TheCase chip c
-      → planned n call image status ≡ workAnswer chip image (wantedOf call) (workOf call n image status c)
+  planned-case : (chip : LargeChip) (c : PairCase) → lentCase n size (besideOf call) image status ≡ TheCase chip c
+      → planned n size call image status ≡ workAnswer chip image (wantedOf call) (workOf call n size image status c)
   unfolding planned lentPlan
-  planned-case chip c e = go call e ∙ sym (work-plans call (case-known n (besideOf call) image status chip c e))
+  planned-case chip c e = go call e ∙ sym (work-plans call (case-known n size (besideOf call) image status chip c e))
     where
-      go : (call : Call) → lentCase n (besideOf call) image status ≡ TheCase chip c → planned n call image status ≡ planByRules chip (seen chip image status) call
-      go (for-update w) e = judged-case n (Bitmap (length w)) image status refuse (λ own. planByRules own (seen own image status) (for-update w)) chip c e
-      go for-recovery e = judged-case n Nothing image status refuse (λ own. planByRules own (seen own image status) for-recovery) chip c e
+      go : (call : Call) → lentCase n size (besideOf call) image status ≡ TheCase chip c → planned n size call image status ≡ planByRules chip (seen chip image status) call
+      go (for-update w) e = judged-case n size (Bitmap (length w)) image status refuse (λ own. planByRules own (seen own image status) (for-update w)) chip c e
+      go for-recovery e = judged-case n size Nothing image status refuse (λ own. planByRules own (seen own image status) for-recovery) chip c e
 
   -- what f makes of an answer, where it passes a refusal on
   module _ {A : Type 0} (out : Refusal → A) (f : LargeChip → Answer → A) (passed : (chip : LargeChip) (r : Refusal) → f chip (refuse r) ≡ out r) where
-    pub by-out : (r : Refusal) → lentCase n (besideOf call) image status ≡ NoCase r
-        → onChip out (chipOf n) (λ chip. f chip (lentPlan chip call image status)) ≡ out r
+    pub by-out : (r : Refusal) → lentCase n size (besideOf call) image status ≡ NoCase r
+        → onChip out (chipOf n size) (λ chip. f chip (lentPlan chip call image status)) ≡ out r
     unfolding planned
-    by-out r e = go (chipOf n) (planned-out r e)
+    by-out r e = go (chipOf n size) (planned-out r e)
       where
         go : (a : ChipAnswer) → onChip refuse a (λ chip. lentPlan chip call image status) ≡ refuse r
             → onChip out a (λ chip. f chip (lentPlan chip call image status)) ≡ out r
         go (NoChip s) p = let q : s ≡ r = cc in ap out q
         go (Chip chip) p = ap (f chip) p ∙ passed chip r
 
-    pub by-work : (chip : LargeChip) (c : PairCase) → lentCase n (besideOf call) image status ≡ TheCase chip c
-        → (work : Work) → work ≡ workOf call n image status c
-        → onChip out (chipOf n) (λ chip. f chip (lentPlan chip call image status)) ≡ f chip (workAnswer chip image (wantedOf call) work)
+    pub by-work : (chip : LargeChip) (c : PairCase) → lentCase n size (besideOf call) image status ≡ TheCase chip c
+        → (work : Work) → work ≡ workOf call n size image status c
+        → onChip out (chipOf n size) (λ chip. f chip (lentPlan chip call image status)) ≡ f chip (workAnswer chip image (wantedOf call) work)
     unfolding planned
     by-work chip c e work w =
-        go (chipOf n) (case-known n (besideOf call) image status chip c e .the-chip) (planned-case chip c e)
+        go (chipOf n size) (case-known n size (besideOf call) image status chip c e .the-chip) (planned-case chip c e)
         ∙ ap (λ (x : Work). f chip (workAnswer chip image (wantedOf call) x)) (sym w)
       where
         go : (a : ChipAnswer) → a ≡ Chip chip
-            → onChip refuse a (λ own. lentPlan own call image status) ≡ workAnswer chip image (wantedOf call) (workOf call n image status c)
-            → onChip out a (λ own. f own (lentPlan own call image status)) ≡ f chip (workAnswer chip image (wantedOf call) (workOf call n image status c))
+            → onChip refuse a (λ own. lentPlan own call image status) ≡ workAnswer chip image (wantedOf call) (workOf call n size image status c)
+            → onChip out a (λ own. f own (lentPlan own call image status)) ≡ f chip (workAnswer chip image (wantedOf call) (workOf call n size image status c))
         go a e p = rw e (ap (f chip) (rw e at p))
 
   -- a plan's answer
-  pub answer-out : (r : Refusal) → lentCase n (besideOf call) image status ≡ NoCase r → planAnswer n call image status ≡ Refused r
+  pub answer-out : (r : Refusal) → lentCase n size (besideOf call) image status ≡ NoCase r → planAnswer n size call image status ≡ Refused r
   unfolding planAnswer
   answer-out = by-out Refused toldAnswer (λ chip r. refl)
 
-  pub answer-work : (chip : LargeChip) (c : PairCase) → lentCase n (besideOf call) image status ≡ TheCase chip c
-      → (work : Work) → work ≡ workOf call n image status c
-      → planAnswer n call image status ≡ toldAnswer chip (workAnswer chip image (wantedOf call) work)
+  pub answer-work : (chip : LargeChip) (c : PairCase) → lentCase n size (besideOf call) image status ≡ TheCase chip c
+      → (work : Work) → work ≡ workOf call n size image status c
+      → planAnswer n size call image status ≡ toldAnswer chip (workAnswer chip image (wantedOf call) work)
   unfolding planAnswer
   answer-work = by-work Refused toldAnswer (λ chip r. refl)
 
   -- what the work reads
-  pub answer-sourced : (chip : LargeChip) (c : PairCase) → lentCase n (besideOf call) image status ≡ TheCase chip c
-      → (work : Work) → work ≡ workOf call n image status c
+  pub answer-sourced : (chip : LargeChip) (c : PairCase) → lentCase n size (besideOf call) image status ≡ TheCase chip c
+      → (work : Work) → work ≡ workOf call n size image status c
       → Sourced chip (length image) (length (wantedOf call)) work
   answer-sourced chip c e work w =
       subst (λ (x : Work). Sourced chip (length image) (length (wantedOf call)) x) (sym w)
-      (work-sourced call c (case-known n (besideOf call) image status chip c e))
+      (work-sourced call c (case-known n size (besideOf call) image status chip c e))

@@ -30,31 +30,31 @@ use Rattle.region.specs.declared.Beside.{Beside}
 use Rattle.region.specs.declared.LentCase.the-variants.{Case as TheCase, Refused as NoCase}
 
 -- a case is told where there is room for a page
-record RoomRight (n : ℕ) (beside : Beside) (image status : List ℕ) (room : ℕ) (chip : LargeChip) (c : PairCase) : Type 0 where
+record RoomRight (n size : ℕ) (beside : Beside) (image status : List ℕ) (room : ℕ) (chip : LargeChip) (c : PairCase) : Type 0 where
   page : room ≡ 2112
-  told : lentCase n beside image status ≡ TheCase chip c
+  told : lentCase n size beside image status ≡ TheCase chip c
 
-room-right : (n : ℕ) (beside : Beside) (image status : List ℕ) (room : ℕ) (chip : LargeChip) (c : PairCase)
-    → pageCase n beside image status room ≡ TheCase chip c → RoomRight n beside image status room chip c
+room-right : (n size : ℕ) (beside : Beside) (image status : List ℕ) (room : ℕ) (chip : LargeChip) (c : PairCase)
+    → pageCase n size beside image status room ≡ TheCase chip c → RoomRight n size beside image status room chip c
 unfolding pageCase
-room-right n beside image status room chip c e = go (eqb room 2112) refl e
+room-right n size beside image status room chip c e = go (eqb room 2112) refl e
   where
     never : (a : ChipAnswer) → onChip NoCase a (λ own. NoCase Length) ≡ TheCase chip c → _≡_ {A = ℕ} 0 1
     never (NoChip r) e = cc
     never (Chip own) e = cc
 
-    go : (t : Bool) → eqb room 2112 ≡ t → cond t (lentCase n beside image status) (onChip NoCase (chipOf n) (λ own. NoCase Length)) ≡ TheCase chip c
-        → RoomRight n beside image status room chip c
+    go : (t : Bool) → eqb room 2112 ≡ t → cond t (lentCase n size beside image status) (onChip NoCase (chipOf n size) (λ own. NoCase Length)) ≡ TheCase chip c
+        → RoomRight n size beside image status room chip c
     go true a e = record { page = eqb-true room 2112 a; told = e }
-    go false a e = absurd (let z = never (chipOf n) e in omega arith)
+    go false a e = absurd (let z = never (chipOf n size) e in omega arith)
 
 -- what goes by one image goes by an equal one
 pub by-same : {r : ImageAnswer} {after : List ℕ} {x y : Imaged} (room : List ℕ) → (r ≡ imageAnswerBy x) × (after ≡ imageAfterBy x room) → y ≡ x
     → (r ≡ imageAnswerBy y) × (after ≡ imageAfterBy y room)
 by-same room w e = (w .0 ∙ ap imageAnswerBy (sym e), w .1 ∙ ap (λ (z : Imaged). imageAfterBy z room) (sym e))
 
-module _ (call : Call) (n : ℕ) (image status : List ℕ) (i : ℕ) (room : List ℕ) where
-  asked-out : (r : Refusal) → pageCase n (besideOf call) image status (length room) ≡ NoCase r → lentImage n call image status i room ≡ no-image r
+module _ (call : Call) (n size : ℕ) (image status : List ℕ) (i : ℕ) (room : List ℕ) where
+  asked-out : (r : Refusal) → pageCase n size (besideOf call) image status (length room) ≡ NoCase r → lentImage n size call image status i room ≡ no-image r
   unfolding pageCase lentImage imaged planImage
   asked-out r e = go (eqb (length room) 2112) e
     where
@@ -62,36 +62,36 @@ module _ (call : Call) (n : ℕ) (image status : List ℕ) (i : ℕ) (room : Lis
       no-room (NoChip s) e = let q : s ≡ r = cc in ap no-image q
       no-room (Chip own) e = let q : Length ≡ r = cc in ap no-image q
 
-      go : (t : Bool) → cond t (lentCase n (besideOf call) image status) (onChip NoCase (chipOf n) (λ own. NoCase Length)) ≡ NoCase r
-          → cond t (imaged n call image status i) (onChip no-image (chipOf n) (λ own. no-image Length)) ≡ no-image r
-      go true e = by-out call n image status no-image (λ chip a. planImage chip a i) (λ chip s. refl) r e
-      go false e = no-room (chipOf n) e
+      go : (t : Bool) → cond t (lentCase n size (besideOf call) image status) (onChip NoCase (chipOf n size) (λ own. NoCase Length)) ≡ NoCase r
+          → cond t (imaged n size call image status i) (onChip no-image (chipOf n size) (λ own. no-image Length)) ≡ no-image r
+      go true e = by-out call n size image status no-image (λ chip a. planImage chip a i) (λ chip s. refl) r e
+      go false e = no-room (chipOf n size) e
 
-  asked-work : (chip : LargeChip) (c : PairCase) → pageCase n (besideOf call) image status (length room) ≡ TheCase chip c
-      → (work : Work) → work ≡ workOf call n image status c
-      → lentImage n call image status i room ≡ planImage chip (workAnswer chip image (wantedOf call) work) i
+  asked-work : (chip : LargeChip) (c : PairCase) → pageCase n size (besideOf call) image status (length room) ≡ TheCase chip c
+      → (work : Work) → work ≡ workOf call n size image status c
+      → lentImage n size call image status i room ≡ planImage chip (workAnswer chip image (wantedOf call) work) i
   unfolding lentImage imaged planImage
   asked-work chip c e work w =
-      let lent = room-right n (besideOf call) image status (length room) chip c e in
+      let lent = room-right n size (besideOf call) image status (length room) chip c e in
       rw (eq-eqb (length room) 2112 (lent .page))
-      (by-work call n image status no-image (λ chip a. planImage chip a i) (λ chip s. refl) chip c (lent .told) work w)
+      (by-work call n size image status no-image (λ chip a. planImage chip a i) (λ chip s. refl) chip c (lent .told) work w)
 
   -- as the entries have it: refused, or by the work
-  pub page-out : (r : Refusal) → pageCase n (besideOf call) image status (length room) ≡ NoCase r
-      → (Refused r ≡ imageAnswer n call image status i room) × (room ≡ imageAfter n call image status i room)
+  pub page-out : (r : Refusal) → pageCase n size (besideOf call) image status (length room) ≡ NoCase r
+      → (Refused r ≡ imageAnswer n size call image status i room) × (room ≡ imageAfter n size call image status i room)
   unfolding imageAnswer imageAfter
   page-out r e = by-same room (refl, refl) (asked-out r e)
 
-  module _ (chip : LargeChip) (c : PairCase) (e : pageCase n (besideOf call) image status (length room) ≡ TheCase chip c) (work : Work)
-      (w : work ≡ workOf call n image status c) where
+  module _ (chip : LargeChip) (c : PairCase) (e : pageCase n size (besideOf call) image status (length room) ≡ TheCase chip c) (work : Work)
+      (w : work ≡ workOf call n size image status c) where
     pub page-sourced : Sourced chip (length image) (length (wantedOf call)) work × (length room ≡ 2112)
     page-sourced =
-        let lent = room-right n (besideOf call) image status (length room) chip c e in
-        (answer-sourced call n image status chip c (lent .told) work w, lent .page)
+        let lent = room-right n size (besideOf call) image status (length room) chip c e in
+        (answer-sourced call n size image status chip c (lent .told) work w, lent .page)
 
     pub page-work : {r : ImageAnswer} {after : List ℕ}
         → (r ≡ imageAnswerBy (planImage chip (workAnswer chip image (wantedOf call) work) i))
         × (after ≡ imageAfterBy (planImage chip (workAnswer chip image (wantedOf call) work) i) room)
-        → (r ≡ imageAnswer n call image status i room) × (after ≡ imageAfter n call image status i room)
+        → (r ≡ imageAnswer n size call image status i room) × (after ≡ imageAfter n size call image status i room)
     unfolding imageAnswer imageAfter
     page-work x = by-same room x (asked-work chip c e work w)

@@ -18,47 +18,47 @@ use Rattle.plan.specs.PageImages.{lentImage, imageAnswerBy, imageAfterBy
 use Rattle.region.specs.Tables.{toldReading, roomBy, tableAnswer, tableAfter}
 use Rattle.region.specs.declared.TableAnswer.the-variants.{Refused}
 
-module _ (n : ℕ) (status x y : List ℕ) where
-  -- bbt's law for every N: a refused one is answered without a look at the image
-  depends : (a : ChipAnswer) → chipOf n ≡ a → ((chip : LargeChip) → chipOf n ≡ Chip chip → Alike chip status x y) → Depends n status x y
+module _ (n size : ℕ) (status x y : List ℕ) where
+  -- bbt's law for every N and size: refused ones are answered without a look at the image
+  depends : (a : ChipAnswer) → chipOf n size ≡ a → ((chip : LargeChip) → chipOf n size ≡ Chip chip → Alike chip status x y) → Depends n size status x y
   unfolding tableReading planned imaged
   depends (NoChip r) e alike = record { reads = λ room. rw e; plans = λ call. rw e; images = λ call i. rw e }
-  depends (Chip chip) e alike = dependence n chip status x y e (alike chip e)
+  depends (Chip chip) e alike = dependence n size chip status x y e (alike chip e)
 
-  plans-same : (a : ChipAnswer) → chipOf n ≡ a → Depends n status x y → (call : Call) → planAnswer n call x status ≡ planAnswer n call y status
+  plans-same : (a : ChipAnswer) → chipOf n size ≡ a → Depends n size status x y → (call : Call) → planAnswer n size call x status ≡ planAnswer n size call y status
   unfolding planAnswer
   plans-same (NoChip r) e d call = rw e
   plans-same (Chip chip) e d call =
-      bridged n chip call x status e .plans ∙ ap (toldAnswer chip) (d .plans call) ∙ sym (bridged n chip call y status e .plans)
+      bridged n size chip call x status e .plans ∙ ap (toldAnswer chip) (d .plans call) ∙ sym (bridged n size chip call y status e .plans)
 
-  module _ (d : Depends n status x y) where
-    tables-same : (room : List ℕ) → tableAnswer n x status room ≡ tableAnswer n y status room
+  module _ (d : Depends n size status x y) where
+    tables-same : (room : List ℕ) → tableAnswer n size x status room ≡ tableAnswer n size y status room
     unfolding tableAnswer
-    tables-same room = ap (λ (t : Reading). onChip Refused (chipOf n) (λ chip. toldReading chip t)) (d .reads room)
+    tables-same room = ap (λ (t : Reading). onChip Refused (chipOf n size) (λ chip. toldReading chip t)) (d .reads room)
 
-    bitmaps-same : (room : List ℕ) → tableAfter n x status room ≡ tableAfter n y status room
+    bitmaps-same : (room : List ℕ) → tableAfter n size x status room ≡ tableAfter n size y status room
     unfolding tableAfter
     bitmaps-same room = ap (λ (t : Reading). roomBy t room) (d .reads room)
 
-    lent-same : (call : Call) (i : ℕ) (room : List ℕ) → lentImage n call x status i room ≡ lentImage n call y status i room
+    lent-same : (call : Call) (i : ℕ) (room : List ℕ) → lentImage n size call x status i room ≡ lentImage n size call y status i room
     unfolding lentImage
     lent-same call i room = rw (d .images call i)
 
-    images-same : (call : Call) (i : ℕ) (room : List ℕ) → imageAnswer n call x status i room ≡ imageAnswer n call y status i room
+    images-same : (call : Call) (i : ℕ) (room : List ℕ) → imageAnswer n size call x status i room ≡ imageAnswer n size call y status i room
     unfolding imageAnswer
     images-same call i room = ap imageAnswerBy (lent-same call i room)
 
-    pages-same : (call : Call) (i : ℕ) (room : List ℕ) → imageAfter n call x status i room ≡ imageAfter n call y status i room
+    pages-same : (call : Call) (i : ℕ) (room : List ℕ) → imageAfter n size call x status i room ≡ imageAfter n size call y status i room
     unfolding imageAfter
     pages-same call i room = ap (λ t. imageAfterBy t room) (lent-same call i room)
 
 pub public-dependence : PublicDependence
-public-dependence n status x y alike =
-    let d = depends n status x y (chipOf n) refl alike in
+public-dependence n size status x y alike =
+    let d = depends n size status x y (chipOf n size) refl alike in
     record {
-      tables = tables-same n status x y d;
-      bitmaps = bitmaps-same n status x y d;
-      plans = plans-same n status x y (chipOf n) refl d;
-      images = images-same n status x y d;
-      pages = pages-same n status x y d;
+      tables = tables-same n size status x y d;
+      bitmaps = bitmaps-same n size status x y d;
+      plans = plans-same n size status x y (chipOf n size) refl d;
+      images = images-same n size status x y d;
+      pages = pages-same n size status x y d;
     }

@@ -36,9 +36,9 @@ abbrev pub wantedOf : Call → List ℕ
 wantedOf (for-update w) = w
 wantedOf for-recovery = []
 
-abbrev pub workOf : Call → ℕ → List ℕ → List ℕ → PairCase → Work
-workOf (for-update w) n image status c = updateWork c
-workOf for-recovery n image status c = recoveryWork n image status c
+abbrev pub workOf : Call → ℕ → ℕ → List ℕ → List ℕ → PairCase → Work
+workOf (for-update w) n size image status c = updateWork c
+workOf for-recovery n size image status c = recoveryWork n size image status c
 
 -- ---- the plan
 module _ (chip : LargeChip) (image w : List ℕ) where
@@ -55,14 +55,14 @@ module _ (chip : LargeChip) (image w : List ℕ) where
   newer-plans (pos n) p m = refl
   newer-plans (negsuc n) p m = refl
 
-module _ {n : ℕ} {chip : LargeChip} {beside : Beside} {image status : List ℕ} where
+module _ {n size : ℕ} {chip : LargeChip} {beside : Beside} {image status : List ℕ} where
   -- the target that is found on a judged region
-  target-known : {c : PairCase} → Known n chip beside image status c → (g : ℕ) → g < chip .region
-      → lentTarget n image status g ≡ toldTarget (target chip (seen chip image status) (g ∷ []))
+  target-known : {c : PairCase} → Known n size chip beside image status c → (g : ℕ) → g < chip .region
+      → lentTarget n size image status g ≡ toldTarget (target chip (seen chip image status) (g ∷ []))
   unfolding lentTarget targetOn
   target-known k g h = rw (k .the-chip, k .region-right, k .statuses-right, lt-ltb g (chip .region) h) refl
 
-  update-plans : (w : List ℕ) (c : PairCase) → Known n chip beside image status c
+  update-plans : (w : List ℕ) (c : PairCase) → Known n size chip beside image status c
       → workAnswer chip image w (updateWork c) ≡ updateFrom w (readCase (pagesOf chip) (seen chip image status) (untold c))
   unfolding workAnswer updateFrom readCase
   update-plans w (NoPair r) k = refl
@@ -71,8 +71,8 @@ module _ {n : ℕ} {chip : LargeChip} {beside : Beside} {image status : List ℕ
   update-plans w (Merging p m) k = refl
   update-plans w (Differing d p m) k = refl
 
-  recovery-plans : (w : List ℕ) (c : PairCase) → Known n chip beside image status c
-      → workAnswer chip image w (recoveryWork n image status c) ≡ recoverCase chip (seen chip image status) (untold c)
+  recovery-plans : (w : List ℕ) (c : PairCase) → Known n size chip beside image status c
+      → workAnswer chip image w (recoveryWork n size image status c) ≡ recoverCase chip (seen chip image status) (untold c)
   unfolding workAnswer recoverCase
   recovery-plans w (NoPair r) k = refl
   recovery-plans w (Alone j g) k =
@@ -86,9 +86,9 @@ module _ {n : ℕ} {chip : LargeChip} {beside : Beside} {image status : List ℕ
       newer-plans chip image w d p m
       ∙ ap₂ (λ (x y : Table). recoverNewer d x y (p .0) (m .0)) (sym (known-table k (known-copies k .0))) (sym (known-table k (known-copies k .1)))
 
-module _ {n : ℕ} {chip : LargeChip} {image status : List ℕ} {c : PairCase} where
-  pub work-plans : (call : Call) → Known n chip (besideOf call) image status c
-      → workAnswer chip image (wantedOf call) (workOf call n image status c) ≡ planByRules chip (seen chip image status) call
+module _ {n size : ℕ} {chip : LargeChip} {image status : List ℕ} {c : PairCase} where
+  pub work-plans : (call : Call) → Known n size chip (besideOf call) image status c
+      → workAnswer chip image (wantedOf call) (workOf call n size image status c) ≡ planByRules chip (seen chip image status) call
   unfolding planByRules update reading recovery
   work-plans (for-update w) k =
       update-plans w c k ∙ ap (λ x. updateFrom w (readCase (pagesOf chip) (seen chip image status) x)) (sym (k .the-case))
@@ -104,22 +104,22 @@ newer-placed : (chip : LargeChip) (size : ℕ) (d : ℤ) (p m : RegionBlock) →
 newer-placed chip size (pos n) p m x y = x
 newer-placed chip size (negsuc n) p m x y = y
 
-module _ {n : ℕ} {chip : LargeChip} {image status : List ℕ} where
-  work-placed : (call : Call) (c : PairCase) → Known n chip (besideOf call) image status c
-      → Placed chip (length (wantedOf call)) (workOf call n image status c)
+module _ {n size : ℕ} {chip : LargeChip} {image status : List ℕ} where
+  work-placed : (call : Call) (c : PairCase) → Known n size chip (besideOf call) image status c
+      → Placed chip (length (wantedOf call)) (workOf call n size image status c)
   work-placed (for-update w) (NoPair r) k = tt
   work-placed (for-update w) (Alone j b) k = tt
   work-placed (for-update w) (Settled p m) k = (known-copies k .0 .inside, eqb-true _ _ (k .beside-right))
   work-placed (for-update w) (Merging p m) k = tt
   work-placed (for-update w) (Differing d p m) k = tt
   work-placed for-recovery (NoPair r) k = tt
-  work-placed for-recovery (Alone j g) k = missing-placed chip 0 j g (lentTarget n image status (g .0)) (known-copies k .inside)
+  work-placed for-recovery (Alone j g) k = missing-placed chip 0 j g (lentTarget n size image status (g .0)) (known-copies k .inside)
   work-placed for-recovery (Settled p m) k = tt
   work-placed for-recovery (Merging p m) k = (known-copies k .0 .inside, known-copies k .1 .inside)
   work-placed for-recovery (Differing d p m) k = newer-placed chip 0 d p m (known-copies k .0 .inside) (known-copies k .1 .inside)
 
-  pub work-sourced : (call : Call) (c : PairCase) → Known n chip (besideOf call) image status c
-      → Sourced chip (length image) (length (wantedOf call)) (workOf call n image status c)
+  pub work-sourced : (call : Call) (c : PairCase) → Known n size chip (besideOf call) image status c
+      → Sourced chip (length image) (length (wantedOf call)) (workOf call n size image status c)
   work-sourced call c k = record { room = omega (arith, known-image k); placed = work-placed call c k }
 
 -- of a work that is known

@@ -13,6 +13,6 @@ abbrev pub toldAnswer : LargeChip → Answer → PlanAnswer
 toldAnswer chip (refuse r) = Refused r
 toldAnswer chip (plan q) = Planned (toldPlan chip q)
 
--- N, then lengths, then status bytes, then the plan
-unfoldable pub planAnswer : ℕ → Call → List ℕ → List ℕ → PlanAnswer
-planAnswer n call image status = onChip Refused (chipOf n) (λ chip. toldAnswer chip (lentPlan chip call image status))
+-- N and the region's size, then lengths, then status bytes, then the plan
+unfoldable pub planAnswer : ℕ → ℕ → Call → List ℕ → List ℕ → PlanAnswer
+planAnswer n size call image status = onChip Refused (chipOf n size) (λ chip. toldAnswer chip (lentPlan chip call image status))

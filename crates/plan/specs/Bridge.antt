@@ -1,6 +1,6 @@
--- The bridge from the histories of demand 3 to the code that plans: for every call on the chip of N blocks, and room for a page, what the
--- contracts of planning and of page images answer and leave is what a history asks for (`planned`, `imaged`). `region/specs/Bridge.antt` has
--- reading.
+-- The bridge from the histories of demand 3 to the code that plans: for every call on the chip of N and the region's size, and room for a
+-- page, what the contracts of planning and of page images answer and leave is what a history asks for (`planned`, `imaged`).
+-- `region/specs/Bridge.antt` has reading.
 use mathlib.Core.List.{List}
 use mathlib.Core.Path.{_≡_}
 use Prim.Native.Nat.{ℕ}
@@ -13,12 +13,12 @@ use Rattle.chip.specs.declared.LargeChip.{LargeChip}
 use Rattle.plan.specs.Answers.{toldAnswer, planAnswer}
 use Rattle.plan.specs.PageImages.{imageAnswerBy, imageAfterBy, imageAnswer, imageAfter}
 
-pub record Bridge (n : ℕ) (chip : LargeChip) (call : Call) (image status : List ℕ) : Type 0 where
+pub record Bridge (n size : ℕ) (chip : LargeChip) (call : Call) (image status : List ℕ) : Type 0 where
   -- the plan or its refusal, told with chip blocks
-  pub plans : planAnswer n call image status ≡ toldAnswer chip (planned n call image status)
+  pub plans : planAnswer n size call image status ≡ toldAnswer chip (planned n size call image status)
   -- the page of step i or its refusal, where there is room for a page
-  pub answers : (i : ℕ) (room : List ℕ) → length room ≡ 2112 → imageAnswer n call image status i room ≡ imageAnswerBy (imaged n call image status i)
-  pub pages : (i : ℕ) (room : List ℕ) → length room ≡ 2112 → imageAfter n call image status i room ≡ imageAfterBy (imaged n call image status i) room
+  pub answers : (i : ℕ) (room : List ℕ) → length room ≡ 2112 → imageAnswer n size call image status i room ≡ imageAnswerBy (imaged n size call image status i)
+  pub pages : (i : ℕ) (room : List ℕ) → length room ≡ 2112 → imageAfter n size call image status i room ≡ imageAfterBy (imaged n size call image status i) room
 
 abbrev pub Bridged : Type 0
-Bridged = (n : ℕ) (chip : LargeChip) (call : Call) (image status : List ℕ) → chipOf n ≡ Chip chip → Bridge n chip call image status
+Bridged = (n size : ℕ) (chip : LargeChip) (call : Call) (image status : List ℕ) → chipOf n size ≡ Chip chip → Bridge n size chip call image status

@@ -21,10 +21,10 @@ use Rattle.region.specs.declared.LentCase.the-variants.{Refused as NoCase}
 unfoldable pub imageInto : Kind → ℕ → List ℕ → List ℕ → List ℕ
 imageInto k v part page = cond (eqb (length page) 2112 && leb (length part) 2048) (partImage k v part) page
 
--- N first (2), then room for a page (1), then the image of step i of the plan; its own refusal comes last
-unfoldable pub lentImage : ℕ → Call → List ℕ → List ℕ → ℕ → List ℕ → Imaged
-lentImage n call image status i room =
-    cond (eqb (length room) 2112) (imaged n call image status i) (onChip no-image (chipOf n) (λ chip. no-image Length))
+-- N and the region's size first (2), then room for a page (1), then the image of step i of the plan; its own refusal comes last
+unfoldable pub lentImage : ℕ → ℕ → Call → List ℕ → List ℕ → ℕ → List ℕ → Imaged
+lentImage n size call image status i room =
+    cond (eqb (length room) 2112) (imaged n size call image status i) (onChip no-image (chipOf n size) (λ chip. no-image Length))
 
 -- what is answered, and the lent room after it: as it was beside a refusal
 abbrev pub imageAnswerBy : Imaged → ImageAnswer
@@ -35,13 +35,13 @@ abbrev pub imageAfterBy : Imaged → List ℕ → List ℕ
 imageAfterBy (no-image r) room = room
 imageAfterBy (page-image bytes) room = bytes
 
-unfoldable pub imageAnswer : ℕ → Call → List ℕ → List ℕ → ℕ → List ℕ → ImageAnswer
-imageAnswer n call image status i room = imageAnswerBy (lentImage n call image status i room)
+unfoldable pub imageAnswer : ℕ → ℕ → Call → List ℕ → List ℕ → ℕ → List ℕ → ImageAnswer
+imageAnswer n size call image status i room = imageAnswerBy (lentImage n size call image status i room)
 
-unfoldable pub imageAfter : ℕ → Call → List ℕ → List ℕ → ℕ → List ℕ → List ℕ
-imageAfter n call image status i room = imageAfterBy (lentImage n call image status i room) room
+unfoldable pub imageAfter : ℕ → ℕ → Call → List ℕ → List ℕ → ℕ → List ℕ → List ℕ
+imageAfter n size call image status i room = imageAfterBy (lentImage n size call image status i room) room
 
 -- the pair's case, judged in that order, with this much room for a page
-unfoldable pub pageCase : ℕ → Beside → List ℕ → List ℕ → ℕ → LentCase
-pageCase n beside image status room =
-    cond (eqb room 2112) (lentCase n beside image status) (onChip NoCase (chipOf n) (λ chip. NoCase Length))
+unfoldable pub pageCase : ℕ → ℕ → Beside → List ℕ → List ℕ → ℕ → LentCase
+pageCase n size beside image status room =
+    cond (eqb room 2112) (lentCase n size beside image status) (onChip NoCase (chipOf n size) (λ chip. NoCase Length))

@@ -40,12 +40,12 @@ abbrev pub newerWork : ℤ → RegionBlock → RegionBlock → Work
 newerWork (pos n) p m = Copy Mirror p m
 newerWork (negsuc n) p m = Copy Primary m p
 
-abbrev pub recoveryWork : ℕ → List ℕ → List ℕ → PairCase → Work
-recoveryWork n image status (NoPair r) = Refused r
-recoveryWork n image status (Alone k g) = missingWork k g (lentTarget n image status (g .0))
-recoveryWork n image status (Settled p m) = Keep p
-recoveryWork n image status (Merging p m) = Merge p m
-recoveryWork n image status (Differing d p m) = newerWork d p m
+abbrev pub recoveryWork : ℕ → ℕ → List ℕ → List ℕ → PairCase → Work
+recoveryWork n size image status (NoPair r) = Refused r
+recoveryWork n size image status (Alone k g) = missingWork k g (lentTarget n size image status (g .0))
+recoveryWork n size image status (Settled p m) = Keep p
+recoveryWork n size image status (Merging p m) = Merge p m
+recoveryWork n size image status (Differing d p m) = newerWork d p m
 
 -- ---- what is planned, and the bitmap that is written
 unfoldable pub workAnswer : LargeChip → List ℕ → List ℕ → Work → Answer

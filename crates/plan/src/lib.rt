@@ -91,13 +91,13 @@ fn newer_work(d: i32, p: RegionBlock, m: RegionBlock) -> Work
 }
 
 // What a recovery comes to.
-fn recovery_work(n: u64, image: &[u8], status: &[u8], c: PairCase) -> Work
-    ensures { λ r. ⌜ r ≡ recoveryWork n (now (image .entry)) (now (status .entry)) c ⌝ }
+fn recovery_work(n: u64, size: u64, image: &[u8], status: &[u8], c: PairCase) -> Work
+    ensures { λ r. ⌜ r ≡ recoveryWork n size (now (image .entry)) (now (status .entry)) c ⌝ }
 {
     match c {
         PairCase::Refused(r) => Work::Refused(r),
         PairCase::Alone(kind, g) => {
-            missing_work(kind, g, region::find_target(n, image, status, g))
+            missing_work(kind, g, region::find_target(n, size, image, status, g))
         }
         PairCase::Settled(p, _) => Work::Keep(p),
         PairCase::Merging(p, m) => Work::Merge(p, m),
@@ -203,23 +203,23 @@ fn plan_of(chip: LargeChip, image: &[u8], wanted: &[u8], work: Work) -> PlanAnsw
 }
 
 // Plans an update of the pair to a wanted bitmap.
-pub fn update_plan(n: u64, image: &[u8], status: &[u8], wanted: &[u8]) -> PlanAnswer
-    ensures { λ r. ⌜ r ≡ planAnswer n (for-update (now (wanted .entry))) (now (image .entry)) (now (status .entry)) ⌝ }
+pub fn update_plan(n: u64, size: u64, image: &[u8], status: &[u8], wanted: &[u8]) -> PlanAnswer
+    ensures { λ r. ⌜ r ≡ planAnswer n size (for-update (now (wanted .entry))) (now (image .entry)) (now (status .entry)) ⌝ }
 {
-    match region::case_of(n, Beside::Bitmap(wanted.len()), image, status) {
+    match region::case_of(n, size, Beside::Bitmap(wanted.len()), image, status) {
         LentCase::Refused(r) => PlanAnswer::Refused(r),
         LentCase::Case(chip, c) => plan_of(chip, image, wanted, update_work(c)),
     }
 }
 
 // Plans a recovery of the pair.
-pub fn recovery_plan(n: u64, image: &[u8], status: &[u8]) -> PlanAnswer
-    ensures { λ r. ⌜ r ≡ planAnswer n for-recovery (now (image .entry)) (now (status .entry)) ⌝ }
+pub fn recovery_plan(n: u64, size: u64, image: &[u8], status: &[u8]) -> PlanAnswer
+    ensures { λ r. ⌜ r ≡ planAnswer n size for-recovery (now (image .entry)) (now (status .entry)) ⌝ }
 {
-    match region::case_of(n, Beside::Nothing, image, status) {
+    match region::case_of(n, size, Beside::Nothing, image, status) {
         LentCase::Refused(r) => PlanAnswer::Refused(r),
         LentCase::Case(chip, c) => {
-            let work = recovery_work(n, image, status, c);
+            let work = recovery_work(n, size, image, status, c);
             plan_of(chip, image, &image[0..0], work)
         }
     }
@@ -331,14 +331,21 @@ fn page_of(
     }
 }
 
-// The pair's case where room for a page is lent too: N is judged, then lengths, then status bytes.
-fn page_case(n: u64, beside: Beside, image: &[u8], status: &[u8], room: usize) -> LentCase
-    ensures { λ r. ⌜ r ≡ pageCase n beside (now (image .entry)) (now (status .entry)) room ⌝ }
+// The pair's case where room for a page is lent too: N and the region's size are judged, then lengths, then status bytes.
+fn page_case(
+    n: u64,
+    size: u64,
+    beside: Beside,
+    image: &[u8],
+    status: &[u8],
+    room: usize,
+) -> LentCase
+    ensures { λ r. ⌜ r ≡ pageCase n size beside (now (image .entry)) (now (status .entry)) room ⌝ }
 {
     if room == LargeChip::PAGE_WITH_OOB {
-        return region::case_of(n, beside, image, status);
+        return region::case_of(n, size, beside, image, status);
     }
-    match LargeChip::new(n) {
+    match LargeChip::new(n, size) {
         ChipAnswer::Refused(r) => LentCase::Refused(r),
         ChipAnswer::Chip(_) => LentCase::Refused(Refusal::Length),
     }
@@ -347,30 +354,45 @@ fn page_case(n: u64, beside: Beside, image: &[u8], status: &[u8], room: usize) -
 // The page image of a step of an update's plan, by the snapshot that the plan was made from.
 pub fn update_page(
     n: u64,
+    size: u64,
     image: &[u8],
     status: &[u8],
     wanted: &[u8],
     step: u64,
     page: &mut [u8],
 ) -> ImageAnswer
-    ensures answer { λ r. ⌜ r ≡ imageAnswer n (for-update (now (wanted .entry))) (now (image .entry)) (now (status .entry)) step (now (page .entry)) ⌝ }
-    ensures out { λ _. ⌜ now (page .exit) ≡ imageAfter n (for-update (now (wanted .entry))) (now (image .entry)) (now (status .entry)) step (now (page .entry)) ⌝ }
+    ensures answer { λ r. ⌜ r ≡ imageAnswer n size (for-update (now (wanted .entry))) (now (image .entry)) (now (status .entry)) step (now (page .entry)) ⌝ }
+    ensures out { λ _. ⌜ now (page .exit) ≡ imageAfter n size (for-update (now (wanted .entry))) (now (image .entry)) (now (status .entry)) step (now (page .entry)) ⌝ }
 {
-    match page_case(n, Beside::Bitmap(wanted.len()), image, status, page.len()) {
+    match page_case(
+        n,
+        size,
+        Beside::Bitmap(wanted.len()),
+        image,
+        status,
+        page.len(),
+    ) {
         LentCase::Refused(r) => ImageAnswer::Refused(r),
         LentCase::Case(chip, c) => page_of(chip, image, wanted, update_work(c), step, page),
     }
 }
 
 // The page image of a step of a recovery's plan, by the snapshot that the plan was made from.
-pub fn recovery_page(n: u64, image: &[u8], status: &[u8], step: u64, page: &mut [u8]) -> ImageAnswer
-    ensures answer { λ r. ⌜ r ≡ imageAnswer n for-recovery (now (image .entry)) (now (status .entry)) step (now (page .entry)) ⌝ }
-    ensures out { λ _. ⌜ now (page .exit) ≡ imageAfter n for-recovery (now (image .entry)) (now (status .entry)) step (now (page .entry)) ⌝ }
+pub fn recovery_page(
+    n: u64,
+    size: u64,
+    image: &[u8],
+    status: &[u8],
+    step: u64,
+    page: &mut [u8],
+) -> ImageAnswer
+    ensures answer { λ r. ⌜ r ≡ imageAnswer n size for-recovery (now (image .entry)) (now (status .entry)) step (now (page .entry)) ⌝ }
+    ensures out { λ _. ⌜ now (page .exit) ≡ imageAfter n size for-recovery (now (image .entry)) (now (status .entry)) step (now (page .entry)) ⌝ }
 {
-    match page_case(n, Beside::Nothing, image, status, page.len()) {
+    match page_case(n, size, Beside::Nothing, image, status, page.len()) {
         LentCase::Refused(r) => ImageAnswer::Refused(r),
         LentCase::Case(chip, c) => {
-            let work = recovery_work(n, image, status, c);
+            let work = recovery_work(n, size, image, status, c);
             page_of(chip, image, &image[0..0], work, step, page)
         }
     }

@@ -80,9 +80,9 @@ module _ (es : List Step) (room : List ℕ) where
       ∙ ap (λ (m : ℕ). planBytes (take m es) ++ drop (4 * length (take m es)) room) (sym (add-one k))
 
 -- at most 2P + 2 steps, and P is at most 4
-pub plan-room : (n : ℕ) (call : Call) (image status : List ℕ) → roomOf (planAnswer n call image status) ≤ 64
+pub plan-room : (n size : ℕ) (call : Call) (image status : List ℕ) → roomOf (planAnswer n size call image status) ≤ 64
 unfolding planAnswer
-plan-room n call image status = go (chipOf n) refl
+plan-room n size call image status = go (chipOf n size) refl
   where
     told : (chip : LargeChip) → pagesOf chip ≤ 4 → (a : Answer) → roomOf (toldAnswer chip a) ≤ 64
     told chip h (refuse r) = omega arith
@@ -90,6 +90,6 @@ plan-room n call image status = go (chipOf n) refl
     told chip h (plan (single k b g t)) = omega (arith, h, count-by (pagesOf chip) (One k (chipBlock chip b)))
     told chip h (plan (double p m t)) = omega (arith, h, count-by (pagesOf chip) (Both (chipBlock chip p) (chipBlock chip m)))
 
-    go : (a : ChipAnswer) → chipOf n ≡ a → roomOf (onChip Refused a (λ chip. toldAnswer chip (lentPlan chip call image status))) ≤ 64
+    go : (a : ChipAnswer) → chipOf n size ≡ a → roomOf (onChip Refused a (λ chip. toldAnswer chip (lentPlan chip call image status))) ≤ 64
     go (NoChip r) e = omega arith
-    go (Chip chip) e = told chip (chip-valid n chip e .few-pages) (lentPlan chip call image status)
+    go (Chip chip) e = told chip (chip-valid n size chip e .few-pages) (lentPlan chip call image status)

@@ -30,17 +30,17 @@ abbrev pub firstCodeBy : BitmapAnswer → ℕ
 firstCodeBy Made = 0
 firstCodeBy (NotMade r) = refusalCode r
 
-unfoldable pub firstCode : ℕ → List ℕ → List ℕ → ℕ
-firstCode n marks room = firstCodeBy (firstAnswer n marks room)
+unfoldable pub firstCode : ℕ → ℕ → List ℕ → List ℕ → ℕ
+firstCode n size marks room = firstCodeBy (firstAnswer n size marks room)
 
 -- ---- ream_table_read: the version in bits 8-15, the primary's chip block in bits 16-31, the mirror's in bits 32-47; sixteen bits
--- hold a chip block (`BlocksBelow`, crate `claims`)
+-- hold a chip block (`BlocksInRegion`, crate `claims`)
 abbrev pub tableCodeBy : TableAnswer → ℕ
 tableCodeBy (Read version primary mirror) = 256 * version + 65536 * (primary .0 % 65536) + 4294967296 * (mirror .0 % 65536)
 tableCodeBy (NotRead r) = refusalCode r
 
-unfoldable pub tableCode : ℕ → List ℕ → List ℕ → List ℕ → ℕ
-tableCode n image status room = tableCodeBy (tableAnswer n image status room)
+unfoldable pub tableCode : ℕ → ℕ → List ℕ → List ℕ → List ℕ → ℕ
+tableCode n size image status room = tableCodeBy (tableAnswer n size image status room)
 
 -- ---- ream_update_plan, ream_recovery_plan
 -- a step in four bytes: kind, chip block big endian, page. No plan holds a step past its end
@@ -69,12 +69,12 @@ abbrev pub stepsPutBy : PlanAnswer → List ℕ → List ℕ
 stepsPutBy (Planned q) room = stepsPut (toldSteps q) room
 stepsPutBy (NotPlanned r) room = room
 
--- N (2), then room for sixteen steps (1), then the answer
-unfoldable pub planCode : ℕ → PlanAnswer → List ℕ → ℕ
-planCode n a room = onChip refusalCode (chipOf n) (λ chip. cond (eqb (length room) 64) (planCodeBy a) (refusalCode Length))
+-- N and the region's size first (2), then room for sixteen steps (1), then the answer, which is their own refusal where they are refused
+unfoldable pub planCode : ℕ → ℕ → PlanAnswer → List ℕ → ℕ
+planCode n size a room = cond (eqb (length room) 64) (planCodeBy a) (onChip refusalCode (chipOf n size) (λ chip. refusalCode Length))
 
-unfoldable pub stepsAfter : ℕ → PlanAnswer → List ℕ → List ℕ
-stepsAfter n a room = onChip (λ r. room) (chipOf n) (λ chip. cond (eqb (length room) 64) (stepsPutBy a room) room)
+unfoldable pub stepsAfter : PlanAnswer → List ℕ → List ℕ
+stepsAfter a room = cond (eqb (length room) 64) (stepsPutBy a room) room
 
 -- how many bytes the steps of an answer take
 abbrev pub roomOf : PlanAnswer → ℕ
@@ -86,5 +86,5 @@ abbrev pub imageCodeBy : ImageAnswer → ℕ
 imageCodeBy ImageMade = 0
 imageCodeBy (NoImage r) = refusalCode r
 
-unfoldable pub imageCode : ℕ → Call → List ℕ → List ℕ → ℕ → List ℕ → ℕ
-imageCode n call image status i room = imageCodeBy (imageAnswer n call image status i room)
+unfoldable pub imageCode : ℕ → ℕ → Call → List ℕ → List ℕ → ℕ → List ℕ → ℕ
+imageCode n size call image status i room = imageCodeBy (imageAnswer n size call image status i room)

@@ -9,7 +9,7 @@ ghost use Rattle.bits.specs.Bytes.{copied};
 ghost use Rattle.reamsickle.specs.Boundary.{refusalCode, fieldBytes, halfCode, halfCodeAfter, writeCode, spareCode, spareFieldsAfter, pageCode, pageDataAfter, pageFieldsAfter};
 ghost use Rattle.plan.specs.Answers.{planAnswer};
 ghost use Rattle.plan.specs.PageImages.{imageAfter};
-ghost use Rattle.reamsickle.specs.LargeBoundary.{firstCode, tableCode, stepBytes, stepsPut, planCode, stepsAfter, roomOf, imageCodeBy, imageCode};
+ghost use Rattle.reamsickle.specs.LargeBoundary.{firstCode, tableCode, stepBytes, stepsPut, planCodeBy, stepsPutBy, planCode, stepsAfter, roomOf, imageCodeBy, imageCode};
 ghost use Rattle.region.specs.Tables.{tableAfter};
 ghost use Rattle.spare.specs.Writing.{spareAfter};
 use bbt::Plan;
@@ -144,11 +144,11 @@ pub extern "C" fn ream_page_read(bytes: &mut [u8], spare: &[u8], fields: &mut [u
 
 // The first bitmap of a chip of n blocks: n marks in, n/4 bytes out.
 #[no_mangle]
-pub extern "C" fn ream_first_bitmap(n: u64, marks: &[u8], bitmap: &mut [u8]) -> u64
-    ensures answer { λ r. ⌜ r ≡ firstCode n (now (marks .entry)) (now (bitmap .entry)) ⌝ }
-    ensures out { λ _. ⌜ now (bitmap .exit) ≡ firstAfter n (now (marks .entry)) (now (bitmap .entry)) ⌝ }
+pub extern "C" fn ream_first_bitmap(n: u64, size: u64, marks: &[u8], bitmap: &mut [u8]) -> u64
+    ensures answer { λ r. ⌜ r ≡ firstCode n size (now (marks .entry)) (now (bitmap .entry)) ⌝ }
+    ensures out { λ _. ⌜ now (bitmap .exit) ≡ firstAfter n size (now (marks .entry)) (now (bitmap .entry)) ⌝ }
 {
-    match bitmap::first_bitmap(n, marks, bitmap) {
+    match bitmap::first_bitmap(n, size, marks, bitmap) {
         BitmapAnswer::Made => ANSWERED,
         BitmapAnswer::Refused(r) => refusal_code(r),
     }
@@ -156,11 +156,17 @@ pub extern "C" fn ream_first_bitmap(n: u64, marks: &[u8], bitmap: &mut [u8]) -> 
 
 // Reads a settled pair: the region image and its status bytes in, the bitmap out.
 #[no_mangle]
-pub extern "C" fn ream_table_read(n: u64, image: &[u8], status: &[u8], bitmap: &mut [u8]) -> u64
-    ensures answer { λ r. ⌜ r ≡ tableCode n (now (image .entry)) (now (status .entry)) (now (bitmap .entry)) ⌝ }
-    ensures out { λ _. ⌜ now (bitmap .exit) ≡ tableAfter n (now (image .entry)) (now (status .entry)) (now (bitmap .entry)) ⌝ }
+pub extern "C" fn ream_table_read(
+    n: u64,
+    size: u64,
+    image: &[u8],
+    status: &[u8],
+    bitmap: &mut [u8],
+) -> u64
+    ensures answer { λ r. ⌜ r ≡ tableCode n size (now (image .entry)) (now (status .entry)) (now (bitmap .entry)) ⌝ }
+    ensures out { λ _. ⌜ now (bitmap .exit) ≡ tableAfter n size (now (image .entry)) (now (status .entry)) (now (bitmap .entry)) ⌝ }
 {
-    match region::read_table(n, image, status, bitmap) {
+    match region::read_table(n, size, image, status, bitmap) {
         TableAnswer::Refused(r) => refusal_code(r),
         TableAnswer::Read(version, primary, mirror) => {
             256 * (version as u64)
@@ -198,27 +204,34 @@ fn put_steps(plan: Plan, steps: &mut [u8])
     }
 }
 
-// Tells what was planned: N, then room for sixteen steps, then the answer.
-fn tell_plan(n: u64, answer: PlanAnswer, steps: &mut [u8]) -> u64
-    requires { ⌜ roomOf answer ≤ 64 ⌝ }
-    ensures answer { λ r. ⌜ r ≡ planCode n answer (now (steps .entry)) ⌝ }
-    ensures out { λ _. ⌜ now (steps .exit) ≡ stepsAfter n answer (now (steps .entry)) ⌝ }
+// Tells what was planned where there is room for sixteen steps.
+fn tell_answer(answer: PlanAnswer, steps: &mut [u8]) -> u64
+    requires { ⌜ (roomOf answer ≤ 64) × (length (now steps) ≡ 64) ⌝ }
+    ensures answer { λ r. ⌜ r ≡ planCodeBy answer ⌝ }
+    ensures out { λ _. ⌜ now (steps .exit) ≡ stepsPutBy answer (now (steps .entry)) ⌝ }
 {
-    match LargeChip::new(n) {
-        ChipAnswer::Refused(r) => refusal_code(r),
-        ChipAnswer::Chip(_) => {
-            if steps.len() != STEPS {
-                return refusal_code(Refusal::Length);
-            }
-            match answer {
-                PlanAnswer::Refused(r) => refusal_code(r),
-                PlanAnswer::Planned(plan) => {
-                    let version = plan.version;
-                    put_steps(plan, steps);
-                    256 * (version as u64) + 65536 * (plan.step_count() as u64) + ANSWERED
-                }
-            }
+    match answer {
+        PlanAnswer::Refused(r) => refusal_code(r),
+        PlanAnswer::Planned(plan) => {
+            let version = plan.version;
+            put_steps(plan, steps);
+            256 * (version as u64) + 65536 * (plan.step_count() as u64) + ANSWERED
         }
+    }
+}
+
+// Tells what was planned, or that there is no room for it: N and the region's size are judged before.
+fn tell_plan(n: u64, size: u64, answer: PlanAnswer, steps: &mut [u8]) -> u64
+    requires { ⌜ roomOf answer ≤ 64 ⌝ }
+    ensures answer { λ r. ⌜ r ≡ planCode n size answer (now (steps .entry)) ⌝ }
+    ensures out { λ _. ⌜ now (steps .exit) ≡ stepsAfter answer (now (steps .entry)) ⌝ }
+{
+    if steps.len() == STEPS {
+        return tell_answer(answer, steps);
+    }
+    match LargeChip::new(n, size) {
+        ChipAnswer::Refused(r) => refusal_code(r),
+        ChipAnswer::Chip(_) => refusal_code(Refusal::Length),
     }
 }
 
@@ -226,24 +239,36 @@ fn tell_plan(n: u64, answer: PlanAnswer, steps: &mut [u8]) -> u64
 #[no_mangle]
 pub extern "C" fn ream_update_plan(
     n: u64,
+    size: u64,
     image: &[u8],
     status: &[u8],
     wanted: &[u8],
     steps: &mut [u8],
 ) -> u64
-    ensures answer { λ r. ⌜ r ≡ planCode n (planAnswer n (for-update (now (wanted .entry))) (now (image .entry)) (now (status .entry))) (now (steps .entry)) ⌝ }
-    ensures out { λ _. ⌜ now (steps .exit) ≡ stepsAfter n (planAnswer n (for-update (now (wanted .entry))) (now (image .entry)) (now (status .entry))) (now (steps .entry)) ⌝ }
+    ensures answer { λ r. ⌜ r ≡ planCode n size (planAnswer n size (for-update (now (wanted .entry))) (now (image .entry)) (now (status .entry))) (now (steps .entry)) ⌝ }
+    ensures out { λ _. ⌜ now (steps .exit) ≡ stepsAfter (planAnswer n size (for-update (now (wanted .entry))) (now (image .entry)) (now (status .entry))) (now (steps .entry)) ⌝ }
 {
-    tell_plan(n, plan::update_plan(n, image, status, wanted), steps)
+    tell_plan(
+        n,
+        size,
+        plan::update_plan(n, size, image, status, wanted),
+        steps,
+    )
 }
 
 // Plans a recovery: the region image and its status bytes in, up to sixteen steps out.
 #[no_mangle]
-pub extern "C" fn ream_recovery_plan(n: u64, image: &[u8], status: &[u8], steps: &mut [u8]) -> u64
-    ensures answer { λ r. ⌜ r ≡ planCode n (planAnswer n for-recovery (now (image .entry)) (now (status .entry))) (now (steps .entry)) ⌝ }
-    ensures out { λ _. ⌜ now (steps .exit) ≡ stepsAfter n (planAnswer n for-recovery (now (image .entry)) (now (status .entry))) (now (steps .entry)) ⌝ }
+pub extern "C" fn ream_recovery_plan(
+    n: u64,
+    size: u64,
+    image: &[u8],
+    status: &[u8],
+    steps: &mut [u8],
+) -> u64
+    ensures answer { λ r. ⌜ r ≡ planCode n size (planAnswer n size for-recovery (now (image .entry)) (now (status .entry))) (now (steps .entry)) ⌝ }
+    ensures out { λ _. ⌜ now (steps .exit) ≡ stepsAfter (planAnswer n size for-recovery (now (image .entry)) (now (status .entry))) (now (steps .entry)) ⌝ }
 {
-    tell_plan(n, plan::recovery_plan(n, image, status), steps)
+    tell_plan(n, size, plan::recovery_plan(n, size, image, status), steps)
 }
 
 // What asking for a page image answered, as a number.
@@ -260,29 +285,31 @@ fn image_code(answer: ImageAnswer) -> u64
 #[no_mangle]
 pub extern "C" fn ream_update_page(
     n: u64,
+    size: u64,
     image: &[u8],
     status: &[u8],
     wanted: &[u8],
     step: u64,
     page: &mut [u8],
 ) -> u64
-    ensures answer { λ r. ⌜ r ≡ imageCode n (for-update (now (wanted .entry))) (now (image .entry)) (now (status .entry)) step (now (page .entry)) ⌝ }
-    ensures out { λ _. ⌜ now (page .exit) ≡ imageAfter n (for-update (now (wanted .entry))) (now (image .entry)) (now (status .entry)) step (now (page .entry)) ⌝ }
+    ensures answer { λ r. ⌜ r ≡ imageCode n size (for-update (now (wanted .entry))) (now (image .entry)) (now (status .entry)) step (now (page .entry)) ⌝ }
+    ensures out { λ _. ⌜ now (page .exit) ≡ imageAfter n size (for-update (now (wanted .entry))) (now (image .entry)) (now (status .entry)) step (now (page .entry)) ⌝ }
 {
-    image_code(plan::update_page(n, image, status, wanted, step, page))
+    image_code(plan::update_page(n, size, image, status, wanted, step, page))
 }
 
 // The page image of a step of a recovery's plan: what the plan was made from and the step's number in, 2,112 bytes out.
 #[no_mangle]
 pub extern "C" fn ream_recovery_page(
     n: u64,
+    size: u64,
     image: &[u8],
     status: &[u8],
     step: u64,
     page: &mut [u8],
 ) -> u64
-    ensures answer { λ r. ⌜ r ≡ imageCode n for-recovery (now (image .entry)) (now (status .entry)) step (now (page .entry)) ⌝ }
-    ensures out { λ _. ⌜ now (page .exit) ≡ imageAfter n for-recovery (now (image .entry)) (now (status .entry)) step (now (page .entry)) ⌝ }
+    ensures answer { λ r. ⌜ r ≡ imageCode n size for-recovery (now (image .entry)) (now (status .entry)) step (now (page .entry)) ⌝ }
+    ensures out { λ _. ⌜ now (page .exit) ≡ imageAfter n size for-recovery (now (image .entry)) (now (status .entry)) step (now (page .entry)) ⌝ }
 {
-    image_code(plan::recovery_page(n, image, status, step, page))
+    image_code(plan::recovery_page(n, size, image, status, step, page))
 }

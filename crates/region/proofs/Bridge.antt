@@ -29,18 +29,18 @@ module _ {chip : LargeChip} (r : Region chip) where
   unfolding statusesRight
   statuses-right = all-intro (length (r .status)) (λ i. ltb (getD (r .status) i 0) 2) (λ i l. lt-ltb (getD (r .status) i 0) 2 (r .status-bits i))
 
-  region-reads : (n : ℕ) → chipOf n ≡ Chip chip → (room : List ℕ) → length room ≡ bitmapBytes chip
-      → tableReading n (r .image) (r .status) room ≡ reading chip (view r)
+  region-reads : (n size : ℕ) → chipOf n size ≡ Chip chip → (room : List ℕ) → length room ≡ bitmapBytes chip
+      → tableReading n size (r .image) (r .status) room ≡ reading chip (view r)
   unfolding tableReading lentReading
-  region-reads n e room h = rw (e, lengths-right, eq-eqb (length room) (bitmapBytes chip) h, statuses-right)
+  region-reads n size e room h = rw (e, lengths-right, eq-eqb (length room) (bitmapBytes chip) h, statuses-right)
 
 pub read-bridged : ReadBridged
 unfolding tableAnswer tableAfter
-read-bridged n chip r e = record {
-  answers = λ room h. rw e (ap (toldReading chip) (region-reads r n e room h));
-  bitmaps = λ room h. ap (λ (x : Reading). roomBy x room) (region-reads r n e room h);
+read-bridged n size chip r e = record {
+  answers = λ room h. rw e (ap (toldReading chip) (region-reads r n size e room h));
+  bitmaps = λ room h. ap (λ (x : Reading). roomBy x room) (region-reads r n size e room h);
   settled =
       λ p m t s room h.
-      let read = region-reads r n e room h ∙ s in
+      let read = region-reads r n size e room h ∙ s in
       (rw e (ap (toldReading chip) read), ap (λ (x : Reading). roomBy x room) read);
 }

@@ -50,30 +50,30 @@ untold-told (merging p m) = refl
 untold-told (differing d p m) = refl
 
 -- ---- what is known beside a case
-pub record Known (n : ℕ) (chip : LargeChip) (beside : Beside) (image status : List ℕ) (c : PairCase) : Type 0 where
-  pub the-chip : chipOf n ≡ Chip chip
+pub record Known (n size : ℕ) (chip : LargeChip) (beside : Beside) (image status : List ℕ) (c : PairCase) : Type 0 where
+  pub the-chip : chipOf n size ≡ Chip chip
   pub region-right : regionLent chip image status ≡ true
   pub beside-right : besideLent chip beside ≡ true
   pub statuses-right : statusesRight status ≡ true
   pub the-case : pairCase chip (seen chip image status) ≡ untold c
 
-module _ (n : ℕ) (beside : Beside) (image status : List ℕ) where
-  -- the case that was told is the image's, on the chip of N
-  pub case-known : (chip : LargeChip) (c : PairCase) → lentCase n beside image status ≡ TheCase chip c → Known n chip beside image status c
+module _ (n size : ℕ) (beside : Beside) (image status : List ℕ) where
+  -- the case that was told is the image's, on the chip of N and the region's size
+  pub case-known : (chip : LargeChip) (c : PairCase) → lentCase n size beside image status ≡ TheCase chip c → Known n size chip beside image status c
   unfolding lentCase caseOn
-  case-known chip c e = by-chip (chipOf n) refl e
+  case-known chip c e = by-chip (chipOf n size) refl e
     where
-      by-tests : (own : LargeChip) → chipOf n ≡ Chip own
+      by-tests : (own : LargeChip) → chipOf n size ≡ Chip own
           → (l : Bool) → (regionLent own image status && besideLent own beside) ≡ l
           → (s : Bool) → statusesRight status ≡ s
           → judged Refused l s (TheCase own (toldCase (pairCase own (seen own image status)))) ≡ TheCase chip c
-          → Known n chip beside image status c
+          → Known n size chip beside image status c
       by-tests own a false x s y e = absurd (let z : _≡_ {A = ℕ} 0 1 = cc in omega arith)
       by-tests own a true x false y e = absurd (let z : _≡_ {A = ℕ} 0 1 = cc in omega arith)
       by-tests own a true x true y e =
           let same : own ≡ chip = cc in
           let told : toldCase (pairCase own (seen own image status)) ≡ c = cc in
-          let known : Known n own beside image status (toldCase (pairCase own (seen own image status)))
+          let known : Known n size own beside image status (toldCase (pairCase own (seen own image status)))
           = record {
             the-chip = a;
             region-right = both-left (regionLent own image status) (besideLent own beside) x;
@@ -81,28 +81,28 @@ module _ (n : ℕ) (beside : Beside) (image status : List ℕ) where
             statuses-right = y;
             the-case = sym (untold-told (pairCase own (seen own image status)));
           } in
-          subst (λ (t : LargeChip). Known n t beside image status c) same
-          (subst (λ (t : PairCase). Known n own beside image status t) told known)
+          subst (λ (t : LargeChip). Known n size t beside image status c) same
+          (subst (λ (t : PairCase). Known n size own beside image status t) told known)
 
-      by-chip : (a : ChipAnswer) → chipOf n ≡ a → onChip Refused a (λ own. caseOn own beside image status) ≡ TheCase chip c
-          → Known n chip beside image status c
+      by-chip : (a : ChipAnswer) → chipOf n size ≡ a → onChip Refused a (λ own. caseOn own beside image status) ≡ TheCase chip c
+          → Known n size chip beside image status c
       by-chip (NoChip r) a e = absurd (let z : _≡_ {A = ℕ} 0 1 = cc in omega arith)
       by-chip (Chip own) a e = by-tests own a (regionLent own image status && besideLent own beside) refl (statusesRight status) refl e
 
   -- an answer that is judged in this order: of a case, and of a refusal
   pub judged-case : {A : Type 0} (out : Refusal → A) (f : LargeChip → A) (chip : LargeChip) (c : PairCase)
-      → lentCase n beside image status ≡ TheCase chip c
-      → onChip out (chipOf n) (λ own. judged out (regionLent own image status && besideLent own beside) (statusesRight status) (f own)) ≡ f chip
+      → lentCase n size beside image status ≡ TheCase chip c
+      → onChip out (chipOf n size) (λ own. judged out (regionLent own image status && besideLent own beside) (statusesRight status) (f own)) ≡ f chip
   judged-case out f chip c e =
-      let k : Known n chip beside image status c = case-known chip c e in
+      let k : Known n size chip beside image status c = case-known chip c e in
       let lengths = both-intro (regionLent chip image status) (besideLent chip beside) (k .region-right) (k .beside-right) in
       rw (k .the-chip, lengths, k .statuses-right) refl
 
   pub judged-out : {A : Type 0} (out : Refusal → A) (f : LargeChip → A) (r : Refusal)
-      → lentCase n beside image status ≡ Refused r
-      → onChip out (chipOf n) (λ own. judged out (regionLent own image status && besideLent own beside) (statusesRight status) (f own)) ≡ out r
+      → lentCase n size beside image status ≡ Refused r
+      → onChip out (chipOf n size) (λ own. judged out (regionLent own image status && besideLent own beside) (statusesRight status) (f own)) ≡ out r
   unfolding lentCase caseOn
-  judged-out {A} out f r e = by-chip (chipOf n) e
+  judged-out {A} out f r e = by-chip (chipOf n size) e
     where
       by-tests : (own : LargeChip) (l s : Bool)
           → judged Refused l s (TheCase own (toldCase (pairCase own (seen own image status)))) ≡ Refused r
@@ -117,9 +117,9 @@ module _ (n : ℕ) (beside : Beside) (image status : List ℕ) where
       by-chip (Chip own) e = by-tests own (regionLent own image status && besideLent own beside) (statusesRight status) e
 
 -- ---- what follows of the chip, the lengths and the blocks of the case
-module _ {n : ℕ} {chip : LargeChip} {beside : Beside} {image status : List ℕ} {c : PairCase} (k : Known n chip beside image status c) where
-  pub known-valid : Valid n chip
-  known-valid = chip-valid n chip (k .the-chip)
+module _ {n size : ℕ} {chip : LargeChip} {beside : Beside} {image status : List ℕ} {c : PairCase} (k : Known n size chip beside image status c) where
+  pub known-valid : Valid n size chip
+  known-valid = chip-valid n size chip (k .the-chip)
 
   pub known-image : length image ≡ regionBytes chip
   unfolding regionLent
@@ -142,8 +142,8 @@ module _ {n : ℕ} {chip : LargeChip} {beside : Beside} {image status : List ℕ
   known-reading = ap (readCase (pagesOf chip) (seen chip image status)) (k .the-case)
 
 -- a settled pair reads as the table of its primary
-pub settled-reading : {n : ℕ} {chip : LargeChip} {beside : Beside} {image status : List ℕ} {p m : RegionBlock}
-    → Known n chip beside image status (Settled p m)
+pub settled-reading : {n size : ℕ} {chip : LargeChip} {beside : Beside} {image status : List ℕ} {p m : RegionBlock}
+    → Known n size chip beside image status (Settled p m)
     → reading chip (seen chip image status) ≡ holds (p .0) (m .0) (storedTable chip image (p .0))
 unfolding readCase
 settled-reading {p} {m} k = known-reading k ∙ ap (holds (p .0) (m .0)) (known-table k (known-copies k .0))

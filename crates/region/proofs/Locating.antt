@@ -1,25 +1,22 @@
--- What a count of good blocks and the last of them say of `find`.
+-- What is located with one block more is what `find` finds with it.
 -- Assumes nothing.
-use mathlib.Core.Bool.{true}
-use mathlib.Core.Path.{_≡_, refl, ap, sym}
-use Prim.Native.Nat.{ℕ, zero, suc, _+_}
-use native.Mathlib.Numerals.{add-one}
-use Rattle.bbt.specs.Copies.{Found, nowhere, only, several, also}
+use mathlib.Core.Bool.{Bool, true, false}
+use mathlib.Core.Path.{_≡_, refl, ap, ap₂, _∙_}
+use Prim.Native.Nat.{ℕ, _+_}
+use Rattle.bbt.specs.Copies.{Found, nowhere, only, several, also, find}
+use Rattle.bbt.specs.Told.{regionBlock}
+use Rattle.bbt.proofs.Searches.{find-next}
+use Rattle.region.specs.Cases.{locatedBy, alsoLocated}
+use Rattle.region.specs.declared.Located.{Located}
 
-abbrev pub foundBy : ℕ → ℕ → Found
-foundBy zero l = nowhere
-foundBy (suc zero) l = only l
-foundBy (suc (suc n)) l = several
-
--- one more
-pub found-more : (n l b : ℕ) → also true b (foundBy n l) ≡ foundBy (n + 1) b
+located-also : (t : Bool) (b : ℕ) (f : Found) → locatedBy (also t b f) ≡ alsoLocated t (regionBlock b) (locatedBy f)
 unfolding also
-found-more zero l b = refl
-found-more (suc zero) l b = refl
-found-more (suc (suc n)) l b = ap (λ (m : ℕ). foundBy m b) (sym (add-one (suc (suc n))))
+located-also false b f = refl
+located-also true b nowhere = refl
+located-also true b (only c) = refl
+located-also true b several = refl
 
--- more than one
-pub found-several : (n l : ℕ) → (n ≡ 0 → ⊥) → (n ≡ 1 → ⊥) → foundBy n l ≡ several
-found-several zero l z o = absurd (z refl)
-found-several (suc zero) l z o = absurd (o refl)
-found-several (suc (suc n)) l z o = refl
+pub located-next : (b : ℕ) (f : ℕ → Bool) {t : Bool} {x : Located} → f b ≡ t → locatedBy (find b f) ≡ x
+    → locatedBy (find (b + 1) f) ≡ alsoLocated t (regionBlock b) x
+located-next b f e h =
+    ap locatedBy (find-next b f) ∙ located-also (f b) b (find b f) ∙ ap₂ (λ (t : Bool) (x : Located). alsoLocated t (regionBlock b) x) e h

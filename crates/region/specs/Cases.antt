@@ -1,4 +1,4 @@
--- The pair's case of a lent region, on a chip judged from N, or the refusal of what was lent.
+-- The pair's case of a lent region, on a chip judged from N and the region's size, or the refusal of what was lent.
 use mathlib.Core.Bool.{Bool, true, false, _&&_}
 use mathlib.Core.List.{List}
 use mathlib.Core.Path.{_≡_}
@@ -6,15 +6,17 @@ use Prim.Native.Nat.{ℕ, _*_, _<_, _≤_}
 use lib.Dec.{eqb}
 use Rattle.bbt.specs.Copies.{Found, nowhere, only, several}
 use Rattle.bbt.specs.Lent.{onChip, regionLent, statusesRight, judged}
-use Rattle.bbt.specs.Pages.{seen, kindOf, versionOf, sameKind}
-use Rattle.bbt.specs.Pairs.{pairCase}
+use Rattle.bbt.specs.Pages.{View, seen, kindOf, versionOf, sameKind}
+use Rattle.bbt.specs.Pairs.{copies, pairCase}
 use Rattle.bbt.specs.Told.{regionBlock, toldCase}
 use Rattle.bbt.specs.declared.Kind.{Kind}
-use Rattle.bbt.specs.declared.Kind.the-variants.{Neither}
+use Rattle.bbt.specs.declared.Kind.the-variants.{Primary, Mirror, Neither}
 use Rattle.chip.specs.Large.{chipOf, bitmapBytes, pagesOf}
 use Rattle.chip.specs.declared.LargeChip.{LargeChip}
+use Rattle.chip.specs.declared.RegionBlock.{RegionBlock}
 use Rattle.region.specs.declared.Beside.{Beside}
 use Rattle.region.specs.declared.Beside.the-variants.{Nothing, Bitmap}
+use Rattle.region.specs.declared.Copies.{Copies}
 use Rattle.region.specs.declared.LentCase.{LentCase}
 use Rattle.region.specs.declared.LentCase.the-variants.{Case as TheCase, Refused}
 use Rattle.region.specs.declared.Located.{Located}
@@ -40,6 +42,17 @@ locatedBy nowhere = Nowhere
 locatedBy (only b) = Only (regionBlock b)
 locatedBy several = Several
 
+-- with one block more
+abbrev pub alsoLocated : Bool → RegionBlock → Located → Located
+alsoLocated false b x = x
+alsoLocated true b Nowhere = Only b
+alsoLocated true b (Only c) = Several
+alsoLocated true b Several = Several
+
+-- the blocks that hold a good copy, of each kind
+abbrev pub copiesIn : LargeChip → View → Copies
+copiesIn chip R = record { primary = locatedBy (copies chip R Primary); mirror = locatedBy (copies chip R Mirror) }
+
 -- what is lent beside the region has its length
 abbrev pub besideLent : LargeChip → Beside → Bool
 besideLent chip Nothing = true
@@ -51,6 +64,6 @@ caseOn chip beside image status =
     judged Refused (regionLent chip image status && besideLent chip beside) (statusesRight status)
     (TheCase chip (toldCase (pairCase chip (seen chip image status))))
 
--- N first
-unfoldable pub lentCase : ℕ → Beside → List ℕ → List ℕ → LentCase
-lentCase n beside image status = onChip Refused (chipOf n) (λ chip. caseOn chip beside image status)
+-- N and the size first
+unfoldable pub lentCase : ℕ → ℕ → Beside → List ℕ → List ℕ → LentCase
+lentCase n size beside image status = onChip Refused (chipOf n size) (λ chip. caseOn chip beside image status)

@@ -16,24 +16,24 @@ use Rattle.region.specs.declared.Extent.{Extent}
 use Rattle.region.specs.declared.OobAnswer.{OobAnswer}
 use Rattle.region.specs.declared.OobAnswer.the-variants.{Given, Refused}
 
--- how far a chip's region image reaches; with N refused, nowhere
+-- how far a chip's region image reaches; with N or the region's size refused, nowhere
 abbrev pub extentOn : LargeChip → Extent
 extentOn chip = record { region = chip .region; pages = pagesOf chip }
 
-unfoldable pub extentOf : ℕ → Extent
-extentOf n = onChip (λ r. record { region = 0; pages = 0 }) (chipOf n) extentOn
+unfoldable pub extentOf : ℕ → ℕ → Extent
+extentOf n size = onChip (λ r. record { region = 0; pages = 0 }) (chipOf n size) extentOn
 
 -- the image's length (1), then block and page (2)
 abbrev pub oobIn : Extent → ℕ → ℕ → ℕ → OobAnswer
-oobIn e size block page = judged Refused (eqb size (e .region * e .pages * 2112)) (ltb block (e .region) && ltb page (e .pages)) Given
+oobIn e lent block page = judged Refused (eqb lent (e .region * e .pages * 2112)) (ltb block (e .region) && ltb page (e .pages)) Given
 
--- N before these (2): where it is refused there are no pages
+-- N and the size before these (2): where they are refused there are no pages
 unfoldable pub oobAnswer : Extent → ℕ → ℕ → ℕ → OobAnswer
-oobAnswer e size block page = cond (eqb (e .pages) 0) (Refused Range) (oobIn e size block page)
+oobAnswer e lent block page = cond (eqb (e .pages) 0) (Refused Range) (oobIn e lent block page)
 
--- so the answer of the extent of N is N's own refusal, or what is said on its chip
-abbrev pub JudgesN : ℕ → ℕ → ℕ → ℕ → Type 0
-JudgesN n size block page = oobAnswer (extentOf n) size block page ≡ onChip Refused (chipOf n) (λ chip. oobIn (extentOn chip) size block page)
+-- so the answer of the extent of N and a size is their own refusal, or what is said on their chip
+abbrev pub JudgesChip : ℕ → ℕ → ℕ → ℕ → ℕ → Type 0
+JudgesChip n size lent block page = oobAnswer (extentOf n size) lent block page ≡ onChip Refused (chipOf n size) (λ chip. oobIn (extentOn chip) lent block page)
 
 -- document 01's number: 0 where the bytes are given, else the refusal's
 abbrev pub oobNumber : OobAnswer → ℕ
@@ -63,7 +63,7 @@ placeBy Given image at = (image .0, at + image .1)
 placeBy (Refused r) image at = image
 
 unfoldable pub oobPlace : Extent → ℕ × ℕ → ℕ → ℕ → ℕ → ℕ × ℕ
-oobPlace e image size block page = placeBy (oobAnswer e size block page) image (oobStart e block page)
+oobPlace e image lent block page = placeBy (oobAnswer e lent block page) image (oobStart e block page)
 
 -- the part r that is handed back of an image: its bytes, and where it lies
 pub record OobOf (e : Extent) (image : RefT (List ℕ)) (block page : ℕ) (r : RefT (List ℕ)) : Type 0 where

@@ -14,13 +14,13 @@ abbrev pub toldReading : LargeChip → Reading → TableAnswer
 toldReading chip (refused r) = Refused r
 toldReading chip (holds p m t) = Read (t .version) (chipBlock chip p) (chipBlock chip m)
 
-unfoldable pub tableAnswer : ℕ → List ℕ → List ℕ → List ℕ → TableAnswer
-tableAnswer n image status room = onChip Refused (chipOf n) (λ chip. toldReading chip (tableReading n image status room))
+unfoldable pub tableAnswer : ℕ → ℕ → List ℕ → List ℕ → List ℕ → TableAnswer
+tableAnswer n size image status room = onChip Refused (chipOf n size) (λ chip. toldReading chip (tableReading n size image status room))
 
 -- the lent room after it
 abbrev pub roomBy : Reading → List ℕ → List ℕ
 roomBy (refused r) room = room
 roomBy (holds p m t) room = t .bitmap
 
-unfoldable pub tableAfter : ℕ → List ℕ → List ℕ → List ℕ → List ℕ
-tableAfter n image status room = roomBy (tableReading n image status room) room
+unfoldable pub tableAfter : ℕ → ℕ → List ℕ → List ℕ → List ℕ → List ℕ
+tableAfter n size image status room = roomBy (tableReading n size image status room) room

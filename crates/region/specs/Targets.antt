@@ -23,6 +23,6 @@ targetOn chip image status g =
     judged Refused (regionLent chip image status) (statusesRight status && ltb g (chip .region))
     (toldTarget (target chip (seen chip image status) (g ∷ [])))
 
--- N before these (2)
-unfoldable pub lentTarget : ℕ → List ℕ → List ℕ → ℕ → TargetAnswer
-lentTarget n image status g = onChip Refused (chipOf n) (λ chip. targetOn chip image status g)
+-- N and the size before these (2)
+unfoldable pub lentTarget : ℕ → ℕ → List ℕ → List ℕ → ℕ → TargetAnswer
+lentTarget n size image status g = onChip Refused (chipOf n size) (λ chip. targetOn chip image status g)

@@ -6,12 +6,12 @@ ghost use lib.ListN.{length};
 ghost use Rattle.bbt.specs.Copies.{good, readsBad};
 ghost use Rattle.bbt.specs.Lent.{statusesRight};
 ghost use Rattle.bbt.specs.Pages.{kindOf, versionOf, pageBytes, pageStatus, seen, partLength};
-ghost use Rattle.bbt.specs.Pairs.{same, copies, compared, pairCase};
+ghost use Rattle.bbt.specs.Pairs.{same, compared, pairCase};
 ghost use Rattle.bbt.specs.Plans.{isFree, target};
 ghost use Rattle.region.specs.Stored.{storedParts, storedTable};
 ghost use Rattle.bbt.specs.Told.{toldCase};
 ghost use Rattle.chip.specs.Large.{bitmapBytes, pagesOf};
-ghost use Rattle.region.specs.Cases.{Fits, isSigned, pageMatches, locatedBy, besideLent, caseOn, lentCase};
+ghost use Rattle.region.specs.Cases.{Fits, isSigned, pageMatches, alsoLocated, copiesIn, besideLent, caseOn, lentCase};
 ghost use Rattle.region.specs.Oob.{OobOf, extentOf, oobAnswer};
 ghost use Rattle.region.specs.Parts.{partOf};
 ghost use Rattle.region.specs.Tables.{tableAfter, tableAnswer};
@@ -72,29 +72,53 @@ enum Located {
     Several,
 }
 
-// The blocks that hold a good copy of a kind.
-fn locate(chip: LargeChip, image: &[u8], status: &[u8], kind: Kind) -> Located
-    requires { ⌜ Fits chip (length (now image)) (length (now status)) × isSigned kind ⌝ }
-    ensures { λ r. ⌜ r ≡ locatedBy (copies chip (seen chip (now (image .entry)) (now (status .entry))) kind) ⌝ }
+// What was located, with one block more, which holds a good copy or not.
+fn also(holds: bool, b: RegionBlock, found: Located) -> Located
+    ensures { λ r. ⌜ r ≡ alsoLocated holds b found ⌝ }
 {
-    let region = chip.region;
-    let mut count: u8 = 0;
-    let mut last = RegionBlock(0);
-    let mut b: u8 = 0;
-    while b < region {
-        if good_copy(chip, image, status, kind, RegionBlock(b)) {
-            count += 1;
-            last = RegionBlock(b);
+    if holds {
+        match found {
+            Located::Nowhere => Located::Only(b),
+            Located::Only(_) => Located::Several,
+            Located::Several => Located::Several,
         }
+    } else {
+        found
+    }
+}
+
+// The blocks that hold a good copy, of each kind.
+struct Copies {
+    primary: Located,
+    mirror: Located,
+}
+
+fn locate(chip: LargeChip, image: &[u8], status: &[u8]) -> Copies
+    requires { ⌜ Fits chip (length (now image)) (length (now status)) ⌝ }
+    ensures { λ r. ⌜ r ≡ copiesIn chip (seen chip (now (image .entry)) (now (status .entry))) ⌝ }
+{
+    let size = chip.region;
+    let mut primary = Located::Nowhere;
+    let mut mirror = Located::Nowhere;
+    let mut b: u8 = 0;
+    while b < size {
+        let block = RegionBlock(b);
+        primary = also(
+            good_copy(chip, image, status, Kind::Primary, block),
+            block,
+            primary,
+        );
+        mirror = also(
+            good_copy(chip, image, status, Kind::Mirror, block),
+            block,
+            mirror,
+        );
         b += 1;
     }
-    if count == 0 {
-        return Located::Nowhere;
+    Copies {
+        primary: primary,
+        mirror: mirror,
     }
-    if count == 1 {
-        return Located::Only(last);
-    }
-    Located::Several
 }
 
 // The bytes of page p that belong to the bitmap.
@@ -179,8 +203,9 @@ fn pair_case(chip: LargeChip, image: &[u8], status: &[u8]) -> PairCase
     requires { ⌜ Fits chip (length (now image)) (length (now status)) ⌝ }
     ensures { λ r. ⌜ r ≡ toldCase (pairCase chip (seen chip (now (image .entry)) (now (status .entry)))) ⌝ }
 {
-    let primary = locate(chip, image, status, Kind::Primary);
-    let mirror = locate(chip, image, status, Kind::Mirror);
+    let found = locate(chip, image, status);
+    let primary = found.primary;
+    let mirror = found.mirror;
     match primary {
         Located::Several => PairCase::Refused(Refusal::SeveralCopies),
         Located::Nowhere => match mirror {
@@ -252,11 +277,11 @@ fn case_on(chip: LargeChip, beside: Beside, image: &[u8], status: &[u8]) -> Lent
     LentCase::Case(chip, pair_case(chip, image, status))
 }
 
-// The pair's case of a lent region: N is judged, then lengths, then status bytes.
-pub fn case_of(n: u64, beside: Beside, image: &[u8], status: &[u8]) -> LentCase
-    ensures { λ r. ⌜ r ≡ lentCase n beside (now (image .entry)) (now (status .entry)) ⌝ }
+// The pair's case of a lent region: N and the region's size are judged, then lengths, then status bytes.
+pub fn case_of(n: u64, size: u64, beside: Beside, image: &[u8], status: &[u8]) -> LentCase
+    ensures { λ r. ⌜ r ≡ lentCase n size beside (now (image .entry)) (now (status .entry)) ⌝ }
 {
-    match LargeChip::new(n) {
+    match LargeChip::new(n, size) {
         ChipAnswer::Refused(r) => LentCase::Refused(r),
         ChipAnswer::Chip(chip) => case_on(chip, beside, image, status),
     }
@@ -295,24 +320,18 @@ pub enum TargetAnswer {
     Refused(Refusal),
 }
 
-// The highest block that is neither the one to avoid nor readable as bad.
+// The highest block that is neither the one to avoid nor readable as bad: the first that will do, from the highest down.
 fn highest_free(chip: LargeChip, image: &[u8], status: &[u8], avoid: RegionBlock) -> TargetAnswer
     requires { ⌜ Fits chip (length (now image)) (length (now status)) ⌝ }
     ensures { λ r. ⌜ r ≡ toldTarget (target chip (seen chip (now (image .entry)) (now (status .entry))) (avoid .0 ∷ [])) ⌝ }
 {
-    let region = chip.region;
-    let mut found = false;
-    let mut last = RegionBlock(0);
-    let mut b: u8 = 0;
-    while b < region {
-        if is_free(chip, image, status, avoid, RegionBlock(b)) {
-            found = true;
-            last = RegionBlock(b);
+    let mut above = chip.region;
+    while 0 < above {
+        let b = RegionBlock(above - 1);
+        if is_free(chip, image, status, avoid, b) {
+            return TargetAnswer::Found(b);
         }
-        b += 1;
-    }
-    if found {
-        return TargetAnswer::Found(last);
+        above -= 1;
     }
     TargetAnswer::Missing
 }
@@ -337,11 +356,18 @@ fn target_on(chip: LargeChip, image: &[u8], status: &[u8], avoid: RegionBlock) -
     highest_free(chip, image, status, avoid)
 }
 
-// The target of a recovery beside a good copy: N is judged, then lengths, then status bytes and the copy's block.
-pub fn find_target(n: u64, image: &[u8], status: &[u8], avoid: RegionBlock) -> TargetAnswer
-    ensures { λ r. ⌜ r ≡ lentTarget n (now (image .entry)) (now (status .entry)) (avoid .0) ⌝ }
+// The target of a recovery beside a good copy: N and the region's size are judged, then lengths, then status bytes and
+// the copy's block.
+pub fn find_target(
+    n: u64,
+    size: u64,
+    image: &[u8],
+    status: &[u8],
+    avoid: RegionBlock,
+) -> TargetAnswer
+    ensures { λ r. ⌜ r ≡ lentTarget n size (now (image .entry)) (now (status .entry)) (avoid .0) ⌝ }
 {
-    match LargeChip::new(n) {
+    match LargeChip::new(n, size) {
         ChipAnswer::Refused(r) => TargetAnswer::Refused(r),
         ChipAnswer::Chip(chip) => target_on(chip, image, status, avoid),
     }
@@ -371,11 +397,11 @@ pub enum TableAnswer {
 }
 
 // Reads a settled pair: its bitmap goes into `bitmap`, which is left alone beside a refusal.
-pub fn read_table(n: u64, image: &[u8], status: &[u8], bitmap: &mut [u8]) -> TableAnswer
-    ensures answer { λ r. ⌜ r ≡ tableAnswer n (now (image .entry)) (now (status .entry)) (now (bitmap .entry)) ⌝ }
-    ensures out { λ _. ⌜ now (bitmap .exit) ≡ tableAfter n (now (image .entry)) (now (status .entry)) (now (bitmap .entry)) ⌝ }
+pub fn read_table(n: u64, size: u64, image: &[u8], status: &[u8], bitmap: &mut [u8]) -> TableAnswer
+    ensures answer { λ r. ⌜ r ≡ tableAnswer n size (now (image .entry)) (now (status .entry)) (now (bitmap .entry)) ⌝ }
+    ensures out { λ _. ⌜ now (bitmap .exit) ≡ tableAfter n size (now (image .entry)) (now (status .entry)) (now (bitmap .entry)) ⌝ }
 {
-    match case_of(n, Beside::Bitmap(bitmap.len()), image, status) {
+    match case_of(n, size, Beside::Bitmap(bitmap.len()), image, status) {
         LentCase::Refused(r) => TableAnswer::Refused(r),
         LentCase::Case(chip, c) => match c {
             PairCase::Refused(r) => TableAnswer::Refused(r),
@@ -394,18 +420,19 @@ pub fn read_table(n: u64, image: &[u8], status: &[u8], bitmap: &mut [u8]) -> Tab
     }
 }
 
-// How far a region image reaches: how many blocks the region has, and P, the pages of each. Both are 0 where N is refused.
+// How far a region image reaches: how many blocks the region has, and P, the pages of each. Both are 0 where N or
+// the region's size is refused.
 pub struct Extent {
     pub region: u8,
     pub pages: u8,
 }
 
 impl Extent {
-    // The extent of the region of a chip of n blocks.
-    pub fn of(n: u64) -> Extent
-        ensures { λ r. ⌜ r ≡ extentOf n ⌝ }
+    // The extent of a region of `size` blocks, on a chip of n.
+    pub fn of(n: u64, size: u64) -> Extent
+        ensures { λ r. ⌜ r ≡ extentOf n size ⌝ }
     {
-        match LargeChip::new(n) {
+        match LargeChip::new(n, size) {
             ChipAnswer::Refused(_) => Extent {
                 region: 0,
                 pages: 0,
@@ -424,7 +451,7 @@ pub enum OobAnswer {
     Refused(Refusal),
 }
 
-// Judges a request for OOB bytes: N, which is refused where P is 0, then the image's length, then block and page.
+// Judges a request for OOB bytes: N and the region's size, which are refused where P is 0, then the image's length, then block and page.
 pub fn oob_answer(extent: Extent, image: &[u8], block: RegionBlock, page: u8) -> OobAnswer
     ensures { λ r. ⌜ r ≡ oobAnswer extent (length (now (image .entry))) (block .0) page ⌝ }
 {

@@ -165,16 +165,23 @@ fn erased() {
     put(b"\n");
 }
 
-// Of a number of blocks: P, or its refusal.
-fn blocks(n: u64) {
+// Writes a number of blocks, and how many of them are the region.
+fn chip(n: u64, size: u64) {
     io::print_decimal(STDOUT_FILENO, n);
-    match LargeChip::new(n) {
+    put(b" blocks, region of ");
+    io::print_decimal(STDOUT_FILENO, size);
+}
+
+// Of these numbers: P, or their refusal.
+fn blocks(n: u64, size: u64) {
+    chip(n, size);
+    match LargeChip::new(n, size) {
         ChipAnswer::Chip(chip) => {
-            put(b" blocks: P ");
+            put(b": P ");
             io::print_decimal(STDOUT_FILENO, chip.pages() as u64);
         }
         ChipAnswer::Refused(r) => {
-            put(b" blocks: refusal ");
+            put(b": refusal ");
             io::print_decimal(STDOUT_FILENO, r.number() as u64);
         }
     }
@@ -207,14 +214,14 @@ fn hex(bytes: &[u8]) {
 }
 
 // What a view answers of a page, and the part that it hands back.
-fn asked(n: u64, image: &[u8], block: u8, page: u8) {
+fn asked(n: u64, size: u64, image: &[u8], block: u8, page: u8) {
     put(b"view of ");
-    io::print_decimal(STDOUT_FILENO, n);
-    put(b" blocks, block ");
+    chip(n, size);
+    put(b", block ");
     io::print_decimal(STDOUT_FILENO, wide(block));
     put(b", page ");
     io::print_decimal(STDOUT_FILENO, wide(page));
-    match view::answer_of(n, image, RegionBlock(block), page) {
+    match view::answer_of(n, size, image, RegionBlock(block), page) {
         OobAnswer::Given => put(b": given, "),
         OobAnswer::Refused(r) => {
             put(b": refusal ");
@@ -222,7 +229,7 @@ fn asked(n: u64, image: &[u8], block: u8, page: u8) {
             put(b", ");
         }
     }
-    let part = view::oob_of(n, image, RegionBlock(block), page);
+    let part = view::oob_of(n, size, image, RegionBlock(block), page);
     io::print_decimal(STDOUT_FILENO, part.len() as u64);
     put(b" bytes");
     if part.len() != 0 {
@@ -232,40 +239,59 @@ fn asked(n: u64, image: &[u8], block: u8, page: u8) {
     put(b"\n");
 }
 
-// First and last block and page where P is 1 and where P is 4; then N out of range, another length, and block or page out of range, each with what comes later
-// in the order wrong as well.
-fn views(one: &[u8], four: &[u8]) {
-    asked(8192, one, 0, 0);
-    asked(8192, one, 3, 0);
-    asked(32768, four, 0, 0);
-    asked(32768, four, 0, 3);
-    asked(32768, four, 3, 0);
-    asked(32768, four, 3, 3);
-    asked(10, one, 4, 4);
-    asked(8192, four, 4, 4);
-    asked(8192, one, 4, 0);
-    asked(8192, one, 3, 1);
-    asked(32768, four, 4, 3);
-    asked(32768, four, 3, 4);
+// First and last block and page where P is 1, where P is 4, and in a region of 7; then N or the region's size out of range, another length, and
+// block or page out of range, each with what comes later in the order wrong as well.
+fn views(one: &[u8], four: &[u8], widest: &[u8]) {
+    asked(8192, 4, one, 0, 0);
+    asked(8192, 4, one, 3, 0);
+    asked(32768, 4, four, 0, 0);
+    asked(32768, 4, four, 0, 3);
+    asked(32768, 4, four, 3, 0);
+    asked(32768, 4, four, 3, 3);
+    asked(32768, 7, widest, 6, 3);
+    asked(10, 4, one, 4, 4);
+    asked(8192, 3, one, 4, 4);
+    asked(8192, 4, four, 4, 4);
+    asked(32768, 5, four, 5, 4);
+    asked(8192, 4, one, 4, 0);
+    asked(8192, 4, one, 3, 1);
+    asked(32768, 4, four, 4, 3);
+    asked(32768, 4, four, 3, 4);
+    asked(32768, 7, widest, 7, 3);
 }
 
-// The views of marked images, for P = 1 and P = 4.
+// The views of marked images, for P = 1 and P = 4, and of the largest region.
 fn marked_views() {
     let mut one = [0u8; 8448];
     let mut four = [0u8; 33792];
+    let mut widest = [0u8; 59136];
     mark(&mut one);
     mark(&mut four);
-    views(&one, &four);
+    mark(&mut widest);
+    views(&one, &four, &widest);
+}
+
+// Numbers of blocks at their edges, and sizes of the region at theirs.
+fn numbers() {
+    blocks(8192, 4);
+    blocks(8196, 4);
+    blocks(4, 4);
+    blocks(10, 4);
+    blocks(32772, 4);
+    blocks(8, 4);
+    blocks(8, 5);
+    blocks(12, 6);
+    blocks(12, 7);
+    blocks(16, 7);
+    blocks(16, 3);
+    blocks(16, 8);
+    blocks(32768, 4294967300);
 }
 
 fn main() {
     run(b"half-codes", Kind::HalfCodes);
     run(b"spares", Kind::Spares);
     erased();
-    blocks(8192);
-    blocks(8196);
-    blocks(4);
-    blocks(10);
-    blocks(32772);
+    numbers();
     marked_views();
 }

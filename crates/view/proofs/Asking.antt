@@ -85,8 +85,8 @@ module _ (Q : Question) where
 
   abbrev pub above : Ended
   above = record {
-    signature = record { lifetimes = 1; outlives = []; params = plain (λ _. u64) ∷ Image ∷ plain (λ _. R.the-row) ∷ plain (λ _. u8) ∷ []; result = Q .result };
-    kept = (yes, (yes, (yes, (yes, tt))));
+    signature = record { lifetimes = 1; outlives = []; params = plain (λ _. u64) ∷ plain (λ _. u64) ∷ Image ∷ plain (λ _. R.the-row) ∷ plain (λ _. u8) ∷ []; result = Q .result };
+    kept = (yes, (yes, (yes, (yes, (yes, tt)))));
   }
 
   module _ {M : Type 1} (𝓤 : URA M) where

@@ -8,7 +8,8 @@ use chip::RegionBlock;
 use region::Extent;
 use region::OobAnswer;
 
-// The lent image itself, and how far it reaches: P, and the number of region blocks. Both are 0 where N is refused.
+// The lent image itself, and how far it reaches: P, and the number of region blocks. Both are 0 where N or
+// the region's size is refused.
 pub struct View<'a> {
     image: &'a [u8],
     extent: Extent,
@@ -21,17 +22,17 @@ pub struct Oob<'a> {
 }
 
 impl<'a> View<'a> {
-    // A view of the region image of a chip of n blocks.
-    pub fn new(n: u64, image: &'a [u8]) -> View<'a>
-        ensures { λ r. ⌜ (r .image ≡ image .entry) × (r .extent ≡ extentOf n) ⌝ }
+    // A view of the image of a region of `size` blocks, on a chip of n.
+    pub fn new(n: u64, size: u64, image: &'a [u8]) -> View<'a>
+        ensures { λ r. ⌜ (r .image ≡ image .entry) × (r .extent ≡ extentOf n size) ⌝ }
     {
         View {
             image,
-            extent: Extent::of(n),
+            extent: Extent::of(n, size),
         }
     }
 
-    // The OOB bytes of a page, or a refusal: N is judged, then the image's length, then block and page.
+    // The OOB bytes of a page, or a refusal: N and the region's size are judged, then the image's length, then block and page.
     pub fn oob(self, block: RegionBlock, page: u8) -> Oob<'a>
         ensures { λ r. ⌜ (r .answer ≡ oobAnswer (self .entry .extent) (length (now (self .entry .image))) (block .0) page) × OobOf (self .entry .extent) (self .entry .image) (block .0) page (r .part) ⌝ }
     {
@@ -42,16 +43,16 @@ impl<'a> View<'a> {
     }
 }
 
-// The answer of a view of the region image of a chip of n blocks.
-pub fn answer_of(n: u64, image: &[u8], block: RegionBlock, page: u8) -> OobAnswer
-    ensures { λ r. ⌜ r ≡ oobAnswer (extentOf n) (length (now (image .entry))) (block .0) page ⌝ }
+// The answer of a view of the image of a region of `size` blocks, on a chip of n.
+pub fn answer_of(n: u64, size: u64, image: &[u8], block: RegionBlock, page: u8) -> OobAnswer
+    ensures { λ r. ⌜ r ≡ oobAnswer (extentOf n size) (length (now (image .entry))) (block .0) page ⌝ }
 {
-    View::new(n, image).oob(block, page).answer
+    View::new(n, size, image).oob(block, page).answer
 }
 
 // The OOB bytes that such a view hands back.
-pub fn oob_of(n: u64, image: &[u8], block: RegionBlock, page: u8) -> &[u8]
-    ensures { λ r. ⌜ OobOf (extentOf n) (image .entry) (block .0) page r ⌝ }
+pub fn oob_of(n: u64, size: u64, image: &[u8], block: RegionBlock, page: u8) -> &[u8]
+    ensures { λ r. ⌜ OobOf (extentOf n size) (image .entry) (block .0) page r ⌝ }
 {
-    View::new(n, image).oob(block, page).part
+    View::new(n, size, image).oob(block, page).part
 }

@@ -1,4 +1,4 @@
--- `first_bitmap` meets its contract: the chip of N blocks or its refusal, and then what `made` answers.
+-- `first_bitmap` meets its contract: the chip or its refusal, and then what `made` answers.
 -- Assumes nothing.
 use Rattle.bitmap.proofs.First.{refused-first, made-first}
 use borrow.Author.Needs.{needs}
@@ -18,13 +18,13 @@ made-requires : tie.Need-made-requires
 made-requires c κs = search needs
 
 returns : tie.Need-returns
-returns c = refused-first (c .before .before .before .before .before .before .args .n) (c .before .before .before .before .before .before .args .marks .now) (c .before .before .before .before .before .before .args .bitmap .now) (c .before .r .given .0 .0) (cc)
+returns c = refused-first (c .before .before .before .before .before .before .args .n) (c .before .before .before .before .before .before .args .size) (c .before .before .before .before .before .before .args .marks .now) (c .before .before .before .before .before .before .args .bitmap .now) (c .before .r .given .0 .0) (cc)
 
 same-length : tie.Need-same-length
 same-length c = search needs
 
 returns-2 : tie.Need-returns-2
-returns-2 c = made-first (c .before .before .before .before .before .before .before .before .before .before .args .n) (c .before .before .before .before .before .before .before .before .before .before .args .marks .now) (c .before .before .before .before .before .before .before .before .before .before .args .bitmap .now) (c .before .before .before .before .before .chip .given .0 .0) (c .before .before .made .result) _ (cc) (c .before .before .made .ensures .0) (c .before .before .made .ensures .1)
+returns-2 c = made-first (c .before .before .before .before .before .before .before .before .before .before .args .n) (c .before .before .before .before .before .before .before .before .before .before .args .size) (c .before .before .before .before .before .before .before .before .before .before .args .marks .now) (c .before .before .before .before .before .before .before .before .before .before .args .bitmap .now) (c .before .before .before .before .before .chip .given .0 .0) (c .before .before .made .result) _ (cc) (c .before .before .made .ensures .0) (c .before .before .made .ensures .1)
 
 pub first-bitmap-spec : {M : Type 1} → statement M
 first-bitmap-spec =

@@ -32,18 +32,18 @@ plan-of-requires : tie.Need-plan-of-requires
 plan-of-requires c κs =
     let a = c .before .before .before .before .before .before .before .before .args in
     let is = sym (c .before .before .before .before .before .case-of .ensures) ∙ c .before .before .before .chip .given .1 in
-    answer-sourced for-recovery (a .n) (a .image .now) (a .status .now) _ _ is _ (c .before .recovery-work .ensures)
+    answer-sourced for-recovery (a .n) (a .size) (a .image .now) (a .status .now) _ _ is _ (c .before .recovery-work .ensures)
 
 returns : tie.Need-returns
 returns c =
     let a = c .before .before .before .before .before .before .args in
-    sym (answer-out for-recovery (a .n) (a .image .now) (a .status .now) _ (sym (c .before .before .before .case-of .ensures) ∙ c .before .r .given .1))
+    sym (answer-out for-recovery (a .n) (a .size) (a .image .now) (a .status .now) _ (sym (c .before .before .before .case-of .ensures) ∙ c .before .r .given .1))
 
 returns-2 : tie.Need-returns-2
 returns-2 c =
     let a = c .before .before .before .before .before .before .before .before .before .args in
     let is = sym (c .before .before .before .before .before .before .case-of .ensures) ∙ c .before .before .before .before .chip .given .1 in
-    c .plan-of .ensures ∙ sym (answer-work for-recovery (a .n) (a .image .now) (a .status .now) _ _ is _ (c .before .before .recovery-work .ensures))
+    c .plan-of .ensures ∙ sym (answer-work for-recovery (a .n) (a .size) (a .image .now) (a .status .now) _ _ is _ (c .before .before .recovery-work .ensures))
 
 pub recovery-plan-spec : {M : Type 1} → statement M
 recovery-plan-spec =

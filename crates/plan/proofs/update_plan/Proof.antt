@@ -23,18 +23,18 @@ plan-of-requires : tie.Need-plan-of-requires
 plan-of-requires c κs =
     let a = c .before .before .before .before .before .before .before .before .args in
     let is = sym (c .before .before .before .before .case-of .ensures) ∙ c .before .before .chip .given .1 in
-    answer-sourced (for-update (a .wanted .now)) (a .n) (a .image .now) (a .status .now) _ _ is _ (c .update-work .ensures)
+    answer-sourced (for-update (a .wanted .now)) (a .n) (a .size) (a .image .now) (a .status .now) _ _ is _ (c .update-work .ensures)
 
 returns : tie.Need-returns
 returns c =
     let a = c .before .before .before .before .before .before .before .args in
-    sym (answer-out (for-update (a .wanted .now)) (a .n) (a .image .now) (a .status .now) _ (sym (c .before .before .before .case-of .ensures) ∙ c .before .r .given .1))
+    sym (answer-out (for-update (a .wanted .now)) (a .n) (a .size) (a .image .now) (a .status .now) _ (sym (c .before .before .before .case-of .ensures) ∙ c .before .r .given .1))
 
 returns-2 : tie.Need-returns-2
 returns-2 c =
     let a = c .before .before .before .before .before .before .before .before .before .args in
     let is = sym (c .before .before .before .before .before .case-of .ensures) ∙ c .before .before .before .chip .given .1 in
-    c .plan-of .ensures ∙ sym (answer-work (for-update (a .wanted .now)) (a .n) (a .image .now) (a .status .now) _ _ is _ (c .before .update-work .ensures))
+    c .plan-of .ensures ∙ sym (answer-work (for-update (a .wanted .now)) (a .n) (a .size) (a .image .now) (a .status .now) _ _ is _ (c .before .update-work .ensures))
 
 pub update-plan-spec : {M : Type 1} → statement M
 update-plan-spec =

@@ -18,10 +18,10 @@ returns c =
     let a = c .before .before .before .before .before .before .before .before .before .args in
     let w = c .before .before .tell-plan .ensures in
     let e = c .before .before .before .before .update-plan .ensures in
-    (w .0 ∙ ap (λ (r : PlanAnswer). planCode (a .n) r (a .steps .now)) e, w .1 ∙ ap (λ (r : PlanAnswer). stepsAfter (a .n) r (a .steps .now)) e)
+    (w .0 ∙ ap (λ (r : PlanAnswer). planCode (a .n) (a .size) r (a .steps .now)) e, w .1 ∙ ap (λ (r : PlanAnswer). stepsAfter r (a .steps .now)) e)
 
 tell-plan-requires : tie.Need-tell-plan-requires
-tell-plan-requires c κs = let a = c .before .before .before .before .before .before .args in subst (λ (r : PlanAnswer). roomOf r ≤ 64) (sym (c .before .update-plan .ensures)) (plan-room (a .n) (for-update (c .before .before .before .before .before .before .args .wanted .now)) (a .image .now) (a .status .now))
+tell-plan-requires c κs = let a = c .before .before .before .before .before .before .args in subst (λ (r : PlanAnswer). roomOf r ≤ 64) (sym (c .before .update-plan .ensures)) (plan-room (a .n) (a .size) (for-update (c .before .before .before .before .before .before .args .wanted .now)) (a .image .now) (a .status .now))
 
 same-length : tie.Need-same-length
 same-length c = search needs

@@ -1,4 +1,4 @@
--- `case_of` meets its contract: N is judged, and a judged chip has 1 to 4 pages.
+-- `case_of` meets its contract: N and the region's size are judged, and a judged chip has 1 to 4 pages.
 -- Assumes nothing.
 use mathlib.Core.Path.{_∙_, sym}
 use Rattle.bbt.proofs.Raw.{chip-valid}
@@ -17,7 +17,7 @@ enum-known-chip : tie.Need-enum-known-chip
 enum-known-chip c = search needs
 
 case-on-requires : tie.Need-case-on-requires
-case-on-requires c κs = let valid = chip-valid _ _ (sym (c .before .before .before .new .ensures) ∙ c .before .chip .given .1) in (valid .some-page, valid .few-pages)
+case-on-requires c κs = let valid = chip-valid _ _ _ (sym (c .before .before .before .new .ensures) ∙ c .before .chip .given .1) in (valid .some-page, valid .few-pages)
 
 returns : tie.Need-returns
 unfolding lentCase

@@ -1,4 +1,4 @@
--- `find_target` meets its contract: N is judged, and a judged chip has 1 to 4 pages.
+-- `find_target` meets its contract: N and the region's size are judged, and a judged chip has 1 to 4 pages.
 -- Assumes nothing.
 use mathlib.Core.Path.{_∙_, sym}
 use Rattle.bbt.proofs.Raw.{chip-valid}
@@ -17,7 +17,7 @@ enum-known-chip : tie.Need-enum-known-chip
 enum-known-chip c = search needs
 
 target-on-requires : tie.Need-target-on-requires
-target-on-requires c κs = let valid = chip-valid _ _ (sym (c .before .before .before .new .ensures) ∙ c .before .chip .given .1) in (valid .some-page, valid .few-pages)
+target-on-requires c κs = let valid = chip-valid _ _ _ (sym (c .before .before .before .new .ensures) ∙ c .before .chip .given .1) in (valid .some-page, valid .few-pages)
 
 returns : tie.Need-returns
 unfolding lentTarget

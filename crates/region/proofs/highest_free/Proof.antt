@@ -1,36 +1,50 @@
--- `highest_free` meets its contract: after b blocks the last free one is the highest so far.
+-- `highest_free` meets its contract: no block from `above` on will do, so the highest that does is one below.
 -- Assumes nothing.
 use mathlib.Core.Bool.{Bool, cond}
 use mathlib.Core.List.{[], _∷_}
-use mathlib.Core.Logic.{⊎-elim}
-use mathlib.Core.Option.{none, some}
-use mathlib.Core.Path.{_≡_, refl, _∙_, ap, ap₂, sym}
-use Prim.Native.Nat.{ℕ, _≤_, _-_}
+use mathlib.Core.Option.{some}
+use mathlib.Core.Path.{_≡_, refl, _∙_, ap, sym}
+use Prim.Native.Nat.{ℕ, _+_, _≤_, _-_, _<_}
 use native.Mathlib.Omega.{arith}
 use Rattle.bbt.specs.Copies.{highest}
 use Rattle.bbt.specs.Pages.{seen}
 use Rattle.bbt.specs.Plans.{isFree, target}
 use Rattle.bbt.proofs.Searches.{highest-next}
-use Rattle.chip.specs.declared.RegionBlock.{RegionBlock}
 use Rattle.region.specs.Targets.{toldTarget}
 use Rattle.region.proofs.highest_free.Statement.{statement}
 use Rattle.region.proofs.highest_free.Tie as tie
 
+-- the highest below a number that is not 0: the one before it, if that passes, else one below
+highest-before : (n : ℕ) (f : ℕ → Bool) (t : Bool) → 0 < n → f (n - 1) ≡ t → highest n f ≡ cond t (some (n - 1)) (highest (n - 1) f)
+highest-before n f t h e =
+    let same : n ≡ n - 1 + 1 = omega arith in
+    ap (λ (k : ℕ). highest k f) same ∙ highest-next (n - 1) f ∙ ap (λ (t : Bool). cond t (some (n - 1)) (highest (n - 1) f)) e
+
 abbrev Inv-loop : tie.InvT-loop
-Inv-loop chip image status avoid region found₀ last₀ b₀ found last b = (b ≤ region) × (highest b (isFree (seen chip image status) (avoid .0 ∷ [])) ≡ cond found (some (last .0)) none)
+Inv-loop chip image status avoid above₀ above = (above ≤ chip .region) × (highest (chip .region) (isFree (seen chip image status) (avoid .0 ∷ [])) ≡ highest above (isFree (seen chip image status) (avoid .0 ∷ [])))
 
 abbrev μ-loop : tie.MeasureT-loop
-μ-loop chip image status avoid region found₀ last₀ b₀ found last b = region - b
+μ-loop chip image status avoid above₀ above = above
 
 loop-holds : tie.Need-loop-holds Inv-loop μ-loop
-unfolding highest
 loop-holds c = (omega arith, refl)
+
+sub-t8 : tie.Need-sub-t8 Inv-loop μ-loop
+sub-t8 c = omega arith
 
 is-free-requires : tie.Need-is-free-requires Inv-loop μ-loop
 is-free-requires c κs = (c .before .before .before .before .pre, omega arith)
 
-add-b : tie.Need-add-b Inv-loop μ-loop
-add-b c = omega arith
+returns : tie.Need-returns Inv-loop μ-loop
+unfolding target
+returns c =
+    let a = c .before .before .before .before .before .before .args in
+    let f = isFree (seen (a .chip) (a .image .now) (a .status .now)) (a .avoid .0 ∷ []) in
+    let loop = c .before .before .before .loop in
+    sym (ap toldTarget (loop .inv .1 ∙ highest-before (loop .above) f _ (omega arith) (sym (c .before .is-free .ensures) ∙ c .if1 .taken)))
+
+sub-above : tie.Need-sub-above Inv-loop μ-loop
+sub-above c = omega arith
 
 loop-less : tie.Need-loop-less Inv-loop μ-loop
 loop-less c = omega arith
@@ -39,28 +53,16 @@ loop-again : tie.Need-loop-again Inv-loop μ-loop
 loop-again c =
     let a = c .before .before .before .before .before .before .args in
     let f = isFree (seen (a .chip) (a .image .now) (a .status .now)) (a .avoid .0 ∷ []) in
-    let b = c .before .before .before .loop .b in
-    let free = sym (c .before .is-free .ensures) in
-    ⊎-elim
-    (λ w. (omega arith, highest-next b f ∙ ap (λ (t : Bool). cond t (some b) (highest b f)) (free ∙ w .0 .taken) ∙ ap₂ (λ (t : Bool) (l : RegionBlock). cond t (some (l .0)) none) (sym (w .1)) (sym (w .2))))
-    (λ w. (omega arith, highest-next b f ∙ ap (λ (t : Bool). cond t (some b) (highest b f)) (free ∙ w .0 .left) ∙ c .before .before .before .loop .inv .1 ∙ ap₂ (λ (t : Bool) (l : RegionBlock). cond t (some (l .0)) none) (sym (w .1)) (sym (w .2))))
-    (c .if1 .came)
-
-returns : tie.Need-returns Inv-loop μ-loop
-unfolding target
-returns c =
-    let a = c .before .before .before .before .before .args in
-    let f = isFree (seen (a .chip) (a .image .now) (a .status .now)) (a .avoid .0 ∷ []) in
-    let end : c .before .before .loop .b ≡ a .chip .region = omega arith in
-    sym (ap toldTarget (ap (λ (n : ℕ). highest n f) (sym end) ∙ c .before .before .loop .inv .1 ∙ ap (λ (t : Bool). cond t (some (c .before .before .loop .last .0)) none) (c .if2 .taken)))
+    let loop = c .before .before .before .loop in
+    (omega arith, loop .inv .1 ∙ highest-before (loop .above) f _ (omega arith) (sym (c .before .is-free .ensures) ∙ c .if1 .left))
 
 returns-2 : tie.Need-returns-2 Inv-loop μ-loop
-unfolding target
+unfolding target highest
 returns-2 c =
-    let a = c .before .before .before .before .before .args in
+    let a = c .before .before .before .before .args in
     let f = isFree (seen (a .chip) (a .image .now) (a .status .now)) (a .avoid .0 ∷ []) in
-    let end : c .before .before .loop .b ≡ a .chip .region = omega arith in
-    sym (ap toldTarget (ap (λ (n : ℕ). highest n f) (sym end) ∙ c .before .before .loop .inv .1 ∙ ap (λ (t : Bool). cond t (some (c .before .before .loop .last .0)) none) (c .if2 .left)))
+    let end : c .before .loop .above ≡ 0 = omega arith in
+    sym (ap toldTarget (c .before .loop .inv .1 ∙ ap (λ (n : ℕ). highest n f) end))
 
 pub highest-free-spec : {M : Type 1} → statement M
 highest-free-spec =
@@ -69,9 +71,10 @@ highest-free-spec =
     Inv-loop
     μ-loop
     loop-holds
+    sub-t8
     is-free-requires
-    add-b
+    returns
+    sub-above
     loop-less
     loop-again
-    returns
     returns-2)

@@ -1,35 +1,42 @@
--- `locate` meets its contract: after b blocks the count and the last good block say what `find` found.
+-- `locate` meets its contract: after b blocks there is located, of each kind, what `find` finds among them.
 -- Assumes nothing.
-use mathlib.Core.Bool.{Bool}
-use mathlib.Core.Logic.{⊎-elim}
 use mathlib.Core.Path.{_≡_, refl, _∙_, ap, ap₂, sym}
 use Prim.Native.Nat.{ℕ, _≤_, _-_}
 use native.Mathlib.Omega.{arith}
-use Rattle.bbt.specs.Copies.{Found, find, good, also}
+use Rattle.bbt.specs.Copies.{find, good}
 use Rattle.bbt.specs.Pages.{seen}
-use Rattle.bbt.proofs.Searches.{find-next}
+use Rattle.bbt.specs.declared.Kind.the-variants.{Primary, Mirror}
 use Rattle.chip.specs.Large.{pagesOf}
-use Rattle.chip.specs.declared.RegionBlock.{RegionBlock}
+use Rattle.region.specs.declared.Copies.{Copies}
+use Rattle.region.specs.declared.Located.{Located}
 use Rattle.region.specs.Cases.{locatedBy}
-use Rattle.region.proofs.Locating.{foundBy, found-more, found-several}
+use Rattle.region.proofs.Locating.{located-next}
+use Rattle.region.proofs.Stored.{primary-signed, mirror-signed}
+use borrow.Author.Needs.{needs}
 use Rattle.region.proofs.locate.Statement.{statement}
 use Rattle.region.proofs.locate.Tie as tie
 
 abbrev Inv-loop : tie.InvT-loop
-Inv-loop chip image status kind region count₀ last₀ b₀ count last b = (b ≤ region) × (count ≤ b) × (find b (good (pagesOf chip) (seen chip image status) kind) ≡ foundBy count (last .0))
+Inv-loop chip image status size primary₀ mirror₀ b₀ primary mirror b = (b ≤ size) × (locatedBy (find b (good (pagesOf chip) (seen chip image status) Primary)) ≡ primary) × (locatedBy (find b (good (pagesOf chip) (seen chip image status) Mirror)) ≡ mirror)
 
 abbrev μ-loop : tie.MeasureT-loop
-μ-loop chip image status kind region count₀ last₀ b₀ count last b = region - b
+μ-loop chip image status size primary₀ mirror₀ b₀ primary mirror b = size - b
 
 loop-holds : tie.Need-loop-holds Inv-loop μ-loop
 unfolding find
-loop-holds c = (omega arith, omega arith, refl)
+loop-holds c = (omega arith, refl, refl)
 
 good-copy-requires : tie.Need-good-copy-requires Inv-loop μ-loop
-good-copy-requires c κs = let pre = c .before .before .before .before .pre in (pre .0, omega arith, pre .1)
+good-copy-requires c κs = (c .before .before .before .before .pre, omega arith, primary-signed)
 
-add-count : tie.Need-add-count Inv-loop μ-loop
-add-count c = omega arith
+also-requires : tie.Need-also-requires Inv-loop μ-loop
+also-requires c κs = search needs
+
+good-copy-requires-2 : tie.Need-good-copy-requires-2 Inv-loop μ-loop
+good-copy-requires-2 c κs = (c .before .before .before .before .before .before .pre, omega arith, mirror-signed)
+
+also-requires-2 : tie.Need-also-requires-2 Inv-loop μ-loop
+also-requires-2 c κs = search needs
 
 add-b : tie.Need-add-b Inv-loop μ-loop
 add-b c = omega arith
@@ -38,38 +45,21 @@ loop-less : tie.Need-loop-less Inv-loop μ-loop
 loop-less c = omega arith
 
 loop-again : tie.Need-loop-again Inv-loop μ-loop
-unfolding also
 loop-again c =
-    let a = c .before .before .before .before .before .before .args in
-    let f = good (pagesOf (a .chip)) (seen (a .chip) (a .image .now) (a .status .now)) (a .kind) in
-    let b = c .before .before .before .loop .b in
-    let good = sym (c .before .good-copy .ensures) in
-    let before = c .before .before .before .loop .inv .2 in
-    ⊎-elim
-    (λ w. (omega arith, omega arith, find-next b f ∙ ap₂ (λ (t : Bool) (x : Found). also t b x) (good ∙ w .0 .taken) before ∙ found-more (c .before .before .before .loop .count) (c .before .before .before .loop .last .0) b ∙ ap₂ foundBy (sym (w .1)) (ap (λ (l : RegionBlock). l .0) (sym (w .2)))))
-    (λ w. (omega arith, omega arith, find-next b f ∙ ap₂ (λ (t : Bool) (x : Found). also t b x) (good ∙ w .0 .left) before ∙ ap₂ foundBy (sym (w .1)) (ap (λ (l : RegionBlock). l .0) (sym (w .2)))))
-    (c .if1 .came)
+    let loop = c .before .before .before .before .before .loop in (
+      omega arith,
+      located-next (loop .b) _ (sym (c .before .before .before .good-copy .ensures)) (loop .inv .1) ∙ sym (c .before .before .also .ensures),
+      located-next (loop .b) _ (sym (c .before .good-copy2 .ensures)) (loop .inv .2) ∙ sym (c .also2 .ensures),
+    )
 
 returns : tie.Need-returns Inv-loop μ-loop
 returns c =
-    let a = c .before .before .before .before .before .args in
-    let f = good (pagesOf (a .chip)) (seen (a .chip) (a .image .now) (a .status .now)) (a .kind) in
-    let end : c .before .before .loop .b ≡ a .chip .region = omega arith in
-    sym (ap locatedBy (ap (λ (n : ℕ). find n f) (sym end) ∙ c .before .before .loop .inv .2 ∙ ap (λ (n : ℕ). foundBy n (c .before .before .loop .last .0)) (c .if2 .taken)))
-
-returns-2 : tie.Need-returns-2 Inv-loop μ-loop
-returns-2 c =
-    let a = c .before .before .before .before .before .before .args in
-    let f = good (pagesOf (a .chip)) (seen (a .chip) (a .image .now) (a .status .now)) (a .kind) in
-    let end : c .before .before .before .loop .b ≡ a .chip .region = omega arith in
-    sym (ap locatedBy (ap (λ (n : ℕ). find n f) (sym end) ∙ c .before .before .before .loop .inv .2 ∙ ap (λ (n : ℕ). foundBy n (c .before .before .before .loop .last .0)) (c .if3 .taken)))
-
-returns-3 : tie.Need-returns-3 Inv-loop μ-loop
-returns-3 c =
-    let a = c .before .before .before .before .before .before .args in
-    let f = good (pagesOf (a .chip)) (seen (a .chip) (a .image .now) (a .status .now)) (a .kind) in
-    let end : c .before .before .before .loop .b ≡ a .chip .region = omega arith in
-    sym (ap locatedBy (ap (λ (n : ℕ). find n f) (sym end) ∙ c .before .before .before .loop .inv .2 ∙ found-several _ _ (c .before .if2 .left) (c .if3 .left)))
+    let a = c .before .before .before .before .args in
+    let R = seen (a .chip) (a .image .now) (a .status .now) in
+    let end : a .chip .region ≡ c .before .loop .b = omega arith in
+    let primary = ap (λ (n : ℕ). locatedBy (find n (good (pagesOf (a .chip)) R Primary))) end ∙ c .before .loop .inv .1 in
+    let mirror = ap (λ (n : ℕ). locatedBy (find n (good (pagesOf (a .chip)) R Mirror))) end ∙ c .before .loop .inv .2 in
+    sym (ap₂ (λ (x y : Located). record { primary = x; mirror = y }) primary mirror)
 
 pub locate-spec : {M : Type 1} → statement M
 locate-spec =
@@ -79,10 +69,10 @@ locate-spec =
     μ-loop
     loop-holds
     good-copy-requires
-    add-count
+    also-requires
+    good-copy-requires-2
+    also-requires-2
     add-b
     loop-less
     loop-again
-    returns
-    returns-2
-    returns-3)
+    returns)

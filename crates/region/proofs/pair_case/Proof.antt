@@ -5,13 +5,13 @@ use Rattle.bbt.specs.Pages.{seen}
 use Rattle.bbt.specs.Pairs.{copies, caseOf, pairCase}
 use Rattle.bbt.specs.declared.Kind.the-variants.{Primary, Mirror}
 use Rattle.region.specs.Cases.{locatedBy}
+use Rattle.region.specs.declared.Copies.{Copies}
 use Rattle.region.specs.declared.Located.{Located}
 use Rattle.region.specs.declared.Located.the-variants.{Nowhere, Only, Several}
 use native.Mathlib.Omega.{arith}
 use Rattle.bbt.proofs.Views.{found-copy}
 use Rattle.region.proofs.Stored.{table-raw}
 use mathlib.Core.Path.{_≡_, refl, _∙_, ap, sym}
-use Rattle.region.proofs.Stored.{primary-signed, mirror-signed}
 use borrow.Author.Needs.{needs}
 use Rattle.region.proofs.pair_case.Statement.{statement}
 use Rattle.region.proofs.pair_case.Tie as tie
@@ -27,11 +27,15 @@ located nowhere l e = ap foundOf e
 located (only b) l e = ap foundOf e
 located several l e = ap foundOf e
 
-locate-requires : tie.Need-locate-requires
-locate-requires c κs = (c .before .before .pre, primary-signed)
+-- of each kind
+abbrev primaryOf : Copies → Located
+primaryOf x = x .primary
 
-locate-requires-2 : tie.Need-locate-requires-2
-locate-requires-2 c κs = (c .before .before .before .pre, mirror-signed)
+abbrev mirrorOf : Copies → Located
+mirrorOf x = x .mirror
+
+locate-requires : tie.Need-locate-requires
+locate-requires c κs = c .before .before .pre
 
 enum-told : tie.Need-enum-told
 enum-told c = search needs
@@ -62,77 +66,77 @@ enum-known-mirror-2 c = search needs
 
 both-case-requires : tie.Need-both-case-requires
 both-case-requires c κs =
-    let a = c .before .before .before .before .before .before .before .before .before .before .args in
+    let a = c .before .before .before .before .before .before .before .before .before .args in
     let R = seen (a .chip) (a .image .now) (a .status .now) in
-    let first : copies (a .chip) R Primary ≡ only (c .before .before .before .before .primary .given .0 .0 .0) = located _ _ (sym (c .before .before .before .before .before .before .before .locate .ensures) ∙ c .before .before .before .before .primary .given .1) in
-    let second : copies (a .chip) R Mirror ≡ only (c .before .mirror2 .given .0 .0 .0) = located _ _ (sym (c .before .before .before .before .before .before .locate2 .ensures) ∙ c .before .mirror2 .given .1) in
+    let first : copies (a .chip) R Primary ≡ only (c .before .before .before .before .primary .given .0 .0 .0) = located _ _ (sym (ap primaryOf (c .before .before .before .before .before .before .locate .ensures)) ∙ c .before .before .before .before .primary .given .1) in
+    let second : copies (a .chip) R Mirror ≡ only (c .before .mirror2 .given .0 .0 .0) = located _ _ (sym (ap mirrorOf (c .before .before .before .before .before .before .locate .ensures)) ∙ c .before .mirror2 .given .1) in
     let x = found-copy (a .chip) R Primary _ first in
     let y = found-copy (a .chip) R Mirror _ second in
-    (omega (arith, c .before .before .before .before .before .before .before .before .before .before .pre .image), c .before .before .before .before .before .before .before .before .before .before .pre .few-pages, x .inside, y .inside)
+    (omega (arith, c .before .before .before .before .before .before .before .before .before .pre .image), c .before .before .before .before .before .before .before .before .before .pre .few-pages, x .inside, y .inside)
 
 returns : tie.Need-returns
 unfolding pairCase caseOf
 returns c =
-    let a = c .before .before .before .before .before .before .args in
+    let a = c .before .before .before .before .before .args in
     let R = seen (a .chip) (a .image .now) (a .status .now) in
-    let first : copies (a .chip) R Primary ≡ several = located _ _ (sym (c .before .before .before .locate .ensures) ∙ c .enum-told .given .1) in
+    let first : copies (a .chip) R Primary ≡ several = located _ _ (sym (ap primaryOf (c .before .before .locate .ensures)) ∙ c .enum-told .given .1) in
     rw first refl
 
 returns-2 : tie.Need-returns-2
 unfolding pairCase caseOf
 returns-2 c =
-    let a = c .before .before .before .before .before .before .before .before .args in
+    let a = c .before .before .before .before .before .before .before .args in
     let R = seen (a .chip) (a .image .now) (a .status .now) in
-    let first : copies (a .chip) R Primary ≡ nowhere = located _ _ (sym (c .before .before .before .before .before .locate .ensures) ∙ c .before .before .enum-told2 .given .1) in
-    let second : copies (a .chip) R Mirror ≡ several = located _ _ (sym (c .before .before .before .before .locate2 .ensures) ∙ c .enum-told3 .given .1) in
+    let first : copies (a .chip) R Primary ≡ nowhere = located _ _ (sym (ap primaryOf (c .before .before .before .before .locate .ensures)) ∙ c .before .before .enum-told2 .given .1) in
+    let second : copies (a .chip) R Mirror ≡ several = located _ _ (sym (ap mirrorOf (c .before .before .before .before .locate .ensures)) ∙ c .enum-told3 .given .1) in
     rw (first, second) refl
 
 returns-3 : tie.Need-returns-3
 unfolding pairCase caseOf
 returns-3 c =
-    let a = c .before .before .before .before .before .before .before .before .args in
+    let a = c .before .before .before .before .before .before .before .args in
     let R = seen (a .chip) (a .image .now) (a .status .now) in
-    let first : copies (a .chip) R Primary ≡ nowhere = located _ _ (sym (c .before .before .before .before .before .locate .ensures) ∙ c .before .before .enum-told2 .given .1) in
-    let second : copies (a .chip) R Mirror ≡ nowhere = located _ _ (sym (c .before .before .before .before .locate2 .ensures) ∙ c .enum-told4 .given .1) in
+    let first : copies (a .chip) R Primary ≡ nowhere = located _ _ (sym (ap primaryOf (c .before .before .before .before .locate .ensures)) ∙ c .before .before .enum-told2 .given .1) in
+    let second : copies (a .chip) R Mirror ≡ nowhere = located _ _ (sym (ap mirrorOf (c .before .before .before .before .locate .ensures)) ∙ c .enum-told4 .given .1) in
     rw (first, second) refl
 
 returns-4 : tie.Need-returns-4
 unfolding pairCase caseOf
 returns-4 c =
-    let a = c .before .before .before .before .before .before .before .before .before .args in
+    let a = c .before .before .before .before .before .before .before .before .args in
     let R = seen (a .chip) (a .image .now) (a .status .now) in
-    let first : copies (a .chip) R Primary ≡ nowhere = located _ _ (sym (c .before .before .before .before .before .before .locate .ensures) ∙ c .before .before .before .enum-told2 .given .1) in
-    let second : copies (a .chip) R Mirror ≡ only (c .before .mirror .given .0 .0 .0) = located _ _ (sym (c .before .before .before .before .before .locate2 .ensures) ∙ c .before .mirror .given .1) in
+    let first : copies (a .chip) R Primary ≡ nowhere = located _ _ (sym (ap primaryOf (c .before .before .before .before .before .locate .ensures)) ∙ c .before .before .before .enum-told2 .given .1) in
+    let second : copies (a .chip) R Mirror ≡ only (c .before .mirror .given .0 .0 .0) = located _ _ (sym (ap mirrorOf (c .before .before .before .before .before .locate .ensures)) ∙ c .before .mirror .given .1) in
     rw (first, second) refl
 
 returns-5 : tie.Need-returns-5
 unfolding pairCase caseOf
 returns-5 c =
-    let a = c .before .before .before .before .before .before .before .before .before .args in
+    let a = c .before .before .before .before .before .before .before .before .args in
     let R = seen (a .chip) (a .image .now) (a .status .now) in
-    let first : copies (a .chip) R Primary ≡ only (c .before .before .before .primary .given .0 .0 .0) = located _ _ (sym (c .before .before .before .before .before .before .locate .ensures) ∙ c .before .before .before .primary .given .1) in
-    let second : copies (a .chip) R Mirror ≡ several = located _ _ (sym (c .before .before .before .before .before .locate2 .ensures) ∙ c .enum-told5 .given .1) in
+    let first : copies (a .chip) R Primary ≡ only (c .before .before .before .primary .given .0 .0 .0) = located _ _ (sym (ap primaryOf (c .before .before .before .before .before .locate .ensures)) ∙ c .before .before .before .primary .given .1) in
+    let second : copies (a .chip) R Mirror ≡ several = located _ _ (sym (ap mirrorOf (c .before .before .before .before .before .locate .ensures)) ∙ c .enum-told5 .given .1) in
     rw (first, second) refl
 
 returns-6 : tie.Need-returns-6
 unfolding pairCase caseOf
 returns-6 c =
-    let a = c .before .before .before .before .before .before .before .before .before .args in
+    let a = c .before .before .before .before .before .before .before .before .args in
     let R = seen (a .chip) (a .image .now) (a .status .now) in
-    let first : copies (a .chip) R Primary ≡ only (c .before .before .before .primary .given .0 .0 .0) = located _ _ (sym (c .before .before .before .before .before .before .locate .ensures) ∙ c .before .before .before .primary .given .1) in
-    let second : copies (a .chip) R Mirror ≡ nowhere = located _ _ (sym (c .before .before .before .before .before .locate2 .ensures) ∙ c .enum-told6 .given .1) in
+    let first : copies (a .chip) R Primary ≡ only (c .before .before .before .primary .given .0 .0 .0) = located _ _ (sym (ap primaryOf (c .before .before .before .before .before .locate .ensures)) ∙ c .before .before .before .primary .given .1) in
+    let second : copies (a .chip) R Mirror ≡ nowhere = located _ _ (sym (ap mirrorOf (c .before .before .before .before .before .locate .ensures)) ∙ c .enum-told6 .given .1) in
     rw (first, second) refl
 
 returns-7 : tie.Need-returns-7
 unfolding pairCase caseOf
 returns-7 c =
-    let a = c .before .before .before .before .before .before .before .before .before .before .before .args in
+    let a = c .before .before .before .before .before .before .before .before .before .before .args in
     let R = seen (a .chip) (a .image .now) (a .status .now) in
-    let first : copies (a .chip) R Primary ≡ only (c .before .before .before .before .before .primary .given .0 .0 .0) = located _ _ (sym (c .before .before .before .before .before .before .before .before .locate .ensures) ∙ c .before .before .before .before .before .primary .given .1) in
-    let second : copies (a .chip) R Mirror ≡ only (c .before .before .mirror2 .given .0 .0 .0) = located _ _ (sym (c .before .before .before .before .before .before .before .locate2 .ensures) ∙ c .before .before .mirror2 .given .1) in
+    let first : copies (a .chip) R Primary ≡ only (c .before .before .before .before .before .primary .given .0 .0 .0) = located _ _ (sym (ap primaryOf (c .before .before .before .before .before .before .before .locate .ensures)) ∙ c .before .before .before .before .before .primary .given .1) in
+    let second : copies (a .chip) R Mirror ≡ only (c .before .before .mirror2 .given .0 .0 .0) = located _ _ (sym (ap mirrorOf (c .before .before .before .before .before .before .before .locate .ensures)) ∙ c .before .before .mirror2 .given .1) in
     let x = found-copy (a .chip) R Primary _ first in
     let y = found-copy (a .chip) R Mirror _ second in
-    let pos = c .before .before .before .before .before .before .before .before .before .before .before .pre .some-pages in
+    let pos = c .before .before .before .before .before .before .before .before .before .before .pre .some-pages in
     rw (first, second, table-raw (a .chip) (a .image .now) (a .status .now) _ Primary pos (x .is-good), table-raw (a .chip) (a .image .now) (a .status .now) _ Mirror pos (y .is-good)) (c .both-case .ensures)
 
 pub pair-case-spec : {M : Type 1} → statement M
@@ -140,7 +144,6 @@ pair-case-spec =
     tie.close
     (tie.spec
     locate-requires
-    locate-requires-2
     enum-told
     enum-told-2
     enum-told-3

@@ -27,22 +27,22 @@ use borrow.Author.Needs.{needs}
 use Rattle.region.proofs.read_table.Statement.{statement}
 use Rattle.region.proofs.read_table.Tie as tie
 
-module _ (n : ℕ) (image status room : List ℕ) where
-  -- what was lent is refused: N first
-  reads-no-chip : (r : Refusal) → chipOf n ≡ NoChip r → tableReading n image status room ≡ refused r
+module _ (n size : ℕ) (image status room : List ℕ) where
+  -- what was lent is refused: N and the region's size first
+  reads-no-chip : (r : Refusal) → chipOf n size ≡ NoChip r → tableReading n size image status room ≡ refused r
   unfolding tableReading
   reads-no-chip r e = rw e refl
 
-  reads-out : (r : Refusal) → lentCase n (Bitmap (length room)) image status ≡ NoCase r → tableReading n image status room ≡ refused r
+  reads-out : (r : Refusal) → lentCase n size (Bitmap (length room)) image status ≡ NoCase r → tableReading n size image status room ≡ refused r
   unfolding tableReading lentReading
-  reads-out r e = judged-out n (Bitmap (length room)) image status refused (λ own. reading own (seen own image status)) r e
+  reads-out r e = judged-out n size (Bitmap (length room)) image status refused (λ own. reading own (seen own image status)) r e
 
-  told-out : (r : Refusal) → lentCase n (Bitmap (length room)) image status ≡ NoCase r
-      → (Refused r ≡ tableAnswer n image status room) × (room ≡ tableAfter n image status room)
+  told-out : (r : Refusal) → lentCase n size (Bitmap (length room)) image status ≡ NoCase r
+      → (Refused r ≡ tableAnswer n size image status room) × (room ≡ tableAfter n size image status room)
   unfolding tableAnswer tableAfter
-  told-out r e = (go (chipOf n) refl, ap (λ (x : Reading). roomBy x room) (sym (reads-out r e)))
+  told-out r e = (go (chipOf n size) refl, ap (λ (x : Reading). roomBy x room) (sym (reads-out r e)))
     where
-      go : (a : ChipAnswer) → chipOf n ≡ a → Refused r ≡ tableAnswer n image status room
+      go : (a : ChipAnswer) → chipOf n size ≡ a → Refused r ≡ tableAnswer n size image status room
       go (NoChip s) a =
           let z : refused r ≡ refused s = sym (reads-out r e) ∙ reads-no-chip s a in
           let q : r ≡ s = cc in
@@ -50,19 +50,19 @@ module _ (n : ℕ) (image status room : List ℕ) where
       go (Chip own) a = rw a (ap (toldReading own) (sym (reads-out r e)))
 
   -- a case is told, and x is what it reads as
-  reads-case : (chip : LargeChip) (c : PairCase) → lentCase n (Bitmap (length room)) image status ≡ Case chip c
-      → tableReading n image status room ≡ reading chip (seen chip image status)
+  reads-case : (chip : LargeChip) (c : PairCase) → lentCase n size (Bitmap (length room)) image status ≡ Case chip c
+      → tableReading n size image status room ≡ reading chip (seen chip image status)
   unfolding tableReading lentReading
-  reads-case chip c e = judged-case n (Bitmap (length room)) image status refused (λ own. reading own (seen own image status)) chip c e
+  reads-case chip c e = judged-case n size (Bitmap (length room)) image status refused (λ own. reading own (seen own image status)) chip c e
 
-  told-case : (chip : LargeChip) (c d : PairCase) → lentCase n (Bitmap (length room)) image status ≡ Case chip c → c ≡ d
-      → (x : Reading) → (Known n chip (Bitmap (length room)) image status d → reading chip (seen chip image status) ≡ x)
-      → (toldReading chip x ≡ tableAnswer n image status room) × (roomBy x room ≡ tableAfter n image status room)
+  told-case : (chip : LargeChip) (c d : PairCase) → lentCase n size (Bitmap (length room)) image status ≡ Case chip c → c ≡ d
+      → (x : Reading) → (Known n size chip (Bitmap (length room)) image status d → reading chip (seen chip image status) ≡ x)
+      → (toldReading chip x ≡ tableAnswer n size image status room) × (roomBy x room ≡ tableAfter n size image status room)
   unfolding tableAnswer tableAfter
   told-case chip c d e q x h =
-      let told : lentCase n (Bitmap (length room)) image status ≡ Case chip d = e ∙ ap (Case chip) q in
-      let known : Known n chip (Bitmap (length room)) image status d = case-known n (Bitmap (length room)) image status chip d told in
-      let is : tableReading n image status room ≡ x = reads-case chip c e ∙ h known in
+      let told : lentCase n size (Bitmap (length room)) image status ≡ Case chip d = e ∙ ap (Case chip) q in
+      let known : Known n size chip (Bitmap (length room)) image status d = case-known n size (Bitmap (length room)) image status chip d told in
+      let is : tableReading n size image status room ≡ x = reads-case chip c e ∙ h known in
       (rw (known .the-chip) (ap (toldReading chip) (sym is)), ap (λ (y : Reading). roomBy y room) (sym is))
 
 case-of-requires : tie.Need-case-of-requires
@@ -88,9 +88,9 @@ copy-bitmap-requires c κs =
     let a = c .before .before .before .before .before .before .before .before .before .before .before .args in
     let chip : LargeChip = c .before .before .before .before .before .chip .given .0 .0 in
     let pair : PairCase = Settled (c .before .before .c2 .given .0 .0) (c .before .before .c2 .given .0 .1 .0) in
-    let told : lentCase (a .n) (Bitmap (length (a .bitmap .now))) (a .image .now) (a .status .now) ≡ Case chip pair
+    let told : lentCase (a .n) (a .size) (Bitmap (length (a .bitmap .now))) (a .image .now) (a .status .now) ≡ Case chip pair
     = sym (c .before .before .before .before .before .before .before .case-of .ensures) ∙ c .before .before .before .before .before .chip .given .1 ∙ ap (Case chip) (c .before .before .c2 .given .1) in
-    let known = case-known (a .n) (Bitmap (length (a .bitmap .now))) (a .image .now) (a .status .now) chip pair told in
+    let known = case-known (a .n) (a .size) (Bitmap (length (a .bitmap .now))) (a .image .now) (a .status .now) chip pair told in
     let valid = known-valid known in
     (omega (arith, known-image known), valid .some-page, valid .few-pages, known-copies known .0 .inside, eqb-true _ _ (known .beside-right))
 
@@ -112,19 +112,19 @@ enum-told-3 c = search needs
 returns : tie.Need-returns
 returns c =
     let a = c .before .before .before .before .before .before .before .args in
-    told-out (a .n) (a .image .now) (a .status .now) (a .bitmap .now) _ (sym (c .before .before .before .case-of .ensures) ∙ c .before .r .given .1)
+    told-out (a .n) (a .size) (a .image .now) (a .status .now) (a .bitmap .now) _ (sym (c .before .before .before .case-of .ensures) ∙ c .before .r .given .1)
 
 returns-2 : tie.Need-returns-2
 unfolding readCase
 returns-2 c =
     let a = c .before .before .before .before .before .before .before .before .before .before .args in
-    told-case (a .n) (a .image .now) (a .status .now) (a .bitmap .now) _ _ _ (sym (c .before .before .before .before .before .before .case-of .ensures) ∙ c .before .before .before .before .chip .given .1) (c .before .c .given .1) _ known-reading
+    told-case (a .n) (a .size) (a .image .now) (a .status .now) (a .bitmap .now) _ _ _ (sym (c .before .before .before .before .before .before .case-of .ensures) ∙ c .before .before .before .before .chip .given .1) (c .before .c .given .1) _ known-reading
 
 returns-3 : tie.Need-returns-3
 unfolding readCase
 returns-3 c =
     let a = c .before .before .before .before .before .before .before .before .before .args in
-    told-case (a .n) (a .image .now) (a .status .now) (a .bitmap .now) _ _ _ (sym (c .before .before .before .before .before .case-of .ensures) ∙ c .before .before .before .chip .given .1) (c .enum-told .given .1) _ known-reading
+    told-case (a .n) (a .size) (a .image .now) (a .status .now) (a .bitmap .now) _ _ _ (sym (c .before .before .before .before .before .case-of .ensures) ∙ c .before .before .before .chip .given .1) (c .enum-told .given .1) _ known-reading
 
 same-length : tie.Need-same-length
 same-length c = search needs
@@ -135,7 +135,7 @@ returns-4 c =
     let chip : LargeChip = c .before .before .before .before .before .before .before .before .before .before .before .chip .given .0 .0 in
     let p : RegionBlock = c .before .before .before .before .before .before .before .before .c2 .given .0 .0 in
     let t =
-    told-case (a .n) (a .image .now) (a .status .now) (a .bitmap .now) chip _ _ (sym (c .before .before .before .before .before .before .before .before .before .before .before .before .before .case-of .ensures) ∙ c .before .before .before .before .before .before .before .before .before .before .before .chip .given .1)
+    told-case (a .n) (a .size) (a .image .now) (a .status .now) (a .bitmap .now) chip _ _ (sym (c .before .before .before .before .before .before .before .before .before .before .before .before .before .case-of .ensures) ∙ c .before .before .before .before .before .before .before .before .before .before .before .chip .given .1)
     (c .before .before .before .before .before .before .before .before .c2 .given .1) _ settled-reading
     in (
       ap (λ (v : ℕ). Read v (c .before .chip-block .result) (c .chip-block2 .result)) (c .before .before .version .ensures)
@@ -148,13 +148,13 @@ returns-5 : tie.Need-returns-5
 unfolding readCase
 returns-5 c =
     let a = c .before .before .before .before .before .before .before .before .before .args in
-    told-case (a .n) (a .image .now) (a .status .now) (a .bitmap .now) _ _ _ (sym (c .before .before .before .before .before .case-of .ensures) ∙ c .before .before .before .chip .given .1) (c .enum-told2 .given .1) _ known-reading
+    told-case (a .n) (a .size) (a .image .now) (a .status .now) (a .bitmap .now) _ _ _ (sym (c .before .before .before .before .before .case-of .ensures) ∙ c .before .before .before .chip .given .1) (c .enum-told2 .given .1) _ known-reading
 
 returns-6 : tie.Need-returns-6
 unfolding readCase
 returns-6 c =
     let a = c .before .before .before .before .before .before .before .before .before .args in
-    told-case (a .n) (a .image .now) (a .status .now) (a .bitmap .now) _ _ _ (sym (c .before .before .before .before .before .case-of .ensures) ∙ c .before .before .before .chip .given .1) (c .enum-told3 .given .1) _ known-reading
+    told-case (a .n) (a .size) (a .image .now) (a .status .now) (a .bitmap .now) _ _ _ (sym (c .before .before .before .before .before .case-of .ensures) ∙ c .before .before .before .chip .given .1) (c .enum-told3 .given .1) _ known-reading
 
 pub read-table-spec : {M : Type 1} → statement M
 read-table-spec =

@@ -18,4 +18,4 @@ answer-of-spec 𝓤 H 𝓜 𝓖 𝓡 =
     entered 𝓤 H (tripleOf 𝓤 H (𝓖 .A) answer-of.signature (answer-of.spec 𝓤 H (𝓖 .A) (𝓜 .mem) (𝓡 .run)))
     (tables 𝓤 H 𝓜 𝓡 code.env .C) (tables 𝓤 H 𝓜 𝓡 code.env .Λ) #view·answer-of code.function (code.unfolded 𝓤 H 𝓜 𝓡)
     (reached 𝓤 H 𝓜 𝓖 𝓡 code.env code.calls-view·View·new code.calls-view·View·oob answer 0 answered (answer-of.clauses 𝓤 H (𝓖 .A) (𝓜 .mem) (𝓡 .run))
-    (λ κs n s b p g r h. factI 𝓤 _ (emp 𝓤) (h .0)) (answer-typed 𝓤 H (𝓖 .A) (givenOf 𝓤 H 𝓜 𝓖)))
+    (λ κs n size s b p g r h. factI 𝓤 _ (emp 𝓤) (h .0)) (answer-typed 𝓤 H (𝓖 .A) (givenOf 𝓤 H 𝓜 𝓖)))

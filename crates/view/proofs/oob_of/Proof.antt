@@ -18,4 +18,4 @@ oob-of-spec 𝓤 H 𝓜 𝓖 𝓡 =
     entered 𝓤 H (tripleOf 𝓤 H (𝓖 .A) oob-of.signature (oob-of.spec 𝓤 H (𝓖 .A) (𝓜 .mem) (𝓡 .run)))
     (tables 𝓤 H 𝓜 𝓡 code.env .C) (tables 𝓤 H 𝓜 𝓡 code.env .Λ) #view·oob-of code.function (code.unfolded 𝓤 H 𝓜 𝓡)
     (reached 𝓤 H 𝓜 𝓖 𝓡 code.env code.calls-view·View·new code.calls-view·View·oob part 1 handed (oob-of.clauses 𝓤 H (𝓖 .A) (𝓜 .mem) (𝓡 .run))
-    (λ κs n s b p g r h. factI 𝓤 _ (emp 𝓤) (h .1)) (part-typed 𝓤 H (𝓖 .A) (givenOf 𝓤 H 𝓜 𝓖)))
+    (λ κs n size s b p g r h. factI 𝓤 _ (emp 𝓤) (h .1)) (part-typed 𝓤 H (𝓖 .A) (givenOf 𝓤 H 𝓜 𝓖)))

@@ -1,4 +1,4 @@
--- `Extent::of` meets its contract: N is judged, and the numbers are the chip's.
+-- `Extent::of` meets its contract: N and the region's size are judged, and the numbers are the chip's.
 -- Assumes nothing.
 use mathlib.Core.Path.{sym, _∙_}
 use Rattle.region.specs.Oob.{extentOf}
@@ -18,8 +18,8 @@ enum-known-chip c = search needs
 pages-requires : tie.Need-pages-requires
 pages-requires c κs = search needs
 
-cast-t6 : tie.Need-cast-t6
-cast-t6 c = search needs
+cast-t7 : tie.Need-cast-t7
+cast-t7 c = search needs
 
 returns : tie.Need-returns
 unfolding extentOf
@@ -32,4 +32,4 @@ returns-2 c = simp (sym (c .before .before .before .before .new .ensures) ∙ c 
 pub of-spec : {M : Type 1} → statement M
 of-spec =
     tie.close
-    (tie.spec new-requires enum-told enum-known-chip pages-requires cast-t6 returns returns-2)
+    (tie.spec new-requires enum-told enum-known-chip pages-requires cast-t7 returns returns-2)

@@ -1,0 +1,30 @@
+-- `also` meets its contract, case by case as `alsoLocated` is written.
+-- Assumes nothing.
+use borrow.Author.Needs.{needs}
+use Rattle.region.proofs.also.Statement.{statement}
+use Rattle.region.proofs.also.Tie as tie
+
+enum-told : tie.Need-enum-told
+enum-told c = search needs
+
+enum-told-2 : tie.Need-enum-told-2
+enum-told-2 c = search needs
+
+enum-told-3 : tie.Need-enum-told-3
+enum-told-3 c = search needs
+
+returns : tie.Need-returns
+returns c = simp (c .before .before .if1 .taken, c .enum-told .given .1)
+
+returns-2 : tie.Need-returns-2
+returns-2 c = search needs
+
+returns-3 : tie.Need-returns-3
+returns-3 c = search needs
+
+returns-4 : tie.Need-returns-4
+returns-4 c = search needs
+
+pub also-spec : {M : Type 1} → statement M
+also-spec =
+    tie.close (tie.spec enum-told enum-told-2 enum-told-3 returns returns-2 returns-3 returns-4)
