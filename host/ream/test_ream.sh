@@ -869,13 +869,13 @@ end_by() { # SIGNAL NUMBER COMMAND..: the command is ended by the signal, and le
 }
 mkfifo unread
 mkdir signals
-end_by HUP 1 "$ream"
 end_by TERM 15 "$ream"
-# a shell has its background ignore SIGINT
-if env --default-signal=INT true 2>/dev/null; then
+# a shell has its background ignore SIGINT, and nohup all that it starts SIGHUP
+if env --default-signal=HUP,INT true 2>/dev/null; then
+	end_by HUP 1 env --default-signal=HUP "$ream"
 	end_by INT 2 env --default-signal=INT "$ream"
 else
-	skipped "an interrupt: env cannot give signals back"
+	skipped "a hangup and an interrupt: env cannot give signals back"
 fi
 
 # Only a terminal is told, and only from the second second on.
