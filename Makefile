@@ -2,7 +2,7 @@
 # make. All that is built stands under target/.
 #
 #   make                the library and the host programs
-#   make run            the tool's simulation of updates, power cuts and recoveries, with a picture
+#   make run            the tool's simulation of updates, power cuts, failed steps and recoveries, with a picture
 #   make example        a driver in small, host/example
 #   make test           the gate: all proofs and all tests (.ci/run)
 #   make host-test      the gate's C part: the four tests below and the host test, plain and with sanitizers
@@ -100,7 +100,7 @@ HISTORIES ?= 0
 .PHONY: run example soak bench test host-test cuts-test tool-test replay
 
 run: $(host)/ream
-	$(host)/ream simulate --seed 645 --events 13 --svg $(host)/simulation.svg --force
+	$(host)/ream simulate --failures --seed 122934 --events 16 --svg $(host)/simulation.svg --force
 
 example: $(host)/example
 	$(host)/example

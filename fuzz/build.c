@@ -2,13 +2,15 @@
 #include "build.h"
 
 #include <stdbool.h>
+#include <string.h>
 
 #include "drawn.h"
 #include "reference.h"
 #include "reamsickle.h"
 
 enum act {
-	WRITE_PRIMARY, WRITE_MIRROR, SPOIL, MARK, SET_OOB, SET_DATA, SET_STATUS, ERASE, STIR, UPDATE, RECOVER, ACTS
+	WRITE_PRIMARY, WRITE_MIRROR, SPOIL, MARK, SET_OOB, SET_DATA, SET_STATUS, ERASE, STIR, UPDATE, RECOVER, ZERO,
+	ACTS
 };
 
 enum {
@@ -21,13 +23,17 @@ enum {
 	(region)->n, (region)->size, (region)->image, region_image_len(region), (region)->status, \
 	region_status_len(region)
 
+/* No step has failed. */
+static const uint8_t no_failed[1];
+
 static uint64_t plan(struct build *build, bool update, uint8_t *steps)
 {
 	const struct region *region = &build->snapshot;
 
 	if (update)
-		return ref_update_plan(LENT(region), build->table[1], (size_t)region->n / 4, steps, REAM_STEPS_SIZE);
-	return ref_recovery_plan(LENT(region), steps, REAM_STEPS_SIZE);
+		return ref_update_plan(LENT(region), build->table[1], (size_t)region->n / 4, no_failed, 0, steps,
+				       REAM_STEPS_SIZE);
+	return ref_recovery_plan(LENT(region), no_failed, 0, steps, REAM_STEPS_SIZE);
 }
 
 static uint64_t plan_page(struct build *build, bool update, unsigned step, uint8_t *page)
@@ -35,8 +41,9 @@ static uint64_t plan_page(struct build *build, bool update, unsigned step, uint8
 	const struct region *region = &build->snapshot;
 
 	if (update)
-		return ref_update_page(LENT(region), build->table[1], (size_t)region->n / 4, step, page, PAGE_BYTES);
-	return ref_recovery_page(LENT(region), step, page, PAGE_BYTES);
+		return ref_update_page(LENT(region), build->table[1], (size_t)region->n / 4, no_failed, 0, step, page,
+				       PAGE_BYTES);
+	return ref_recovery_page(LENT(region), no_failed, 0, step, page, PAGE_BYTES);
 }
 
 #undef LENT
@@ -108,6 +115,9 @@ static void perform(struct build *build, struct input *input)
 	case UPDATE:
 	case RECOVER:
 		carry_out(build, act == UPDATE, take(input) % (MOST_STEPS + 1));
+		break;
+	case ZERO:
+		memset(region_oob(region, block, page), 0, PAGE_OOB);
 		break;
 	case ACTS:
 		break;

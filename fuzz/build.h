@@ -35,6 +35,7 @@ struct build {
  *	8	draw anew all bytes that must not count
  *	9	plan an update and carry out some steps of it: how many
  *	10	the same with a recovery
+ *	11	zeros in all OOB bytes of a page
  */
 void build_region(struct build *build, struct input *input, uint64_t n, unsigned size);
 

@@ -13,7 +13,8 @@
  *				modulo the buffers; a byte below 128 then adds -64 to 63, otherwise it is the
  *				next eight bytes
  *	what is lent		a spare to read, alone or with its data: lend_page(); region and wanted:
- *				build_region(), with the second table as wanted; others: take_bytes() each
+ *				build_region(), with the second table as wanted, and failed steps: lend_failed();
+ *				others: take_bytes() each
  *
  * The library is not instrumented: it is native code as the prover made it. So coverage is that of the
  * reference, which takes each case of document 01 apart as the library has to, and memory that the library
@@ -38,7 +39,10 @@ struct fuzz {
 	struct fence fence[MOST_BUFFERS];
 };
 
-enum { FILLER = 0x5A };		/* stands where no byte of the input is asked for */
+enum {
+	FILLER = 0x5A,		/* stands where no byte of the input is asked for */
+	MOST_STEPS = 11,	/* of a plan */
+};
 
 /* The numbers that are worth trying, by name. */
 static const uint64_t tags[] = {
@@ -120,6 +124,8 @@ static void tell(struct call *call, const struct told *told)
 		return;
 	*len = (size_t)(told->whole ? told->number : *len + told->number);
 	held = lent_held(*len);
+	if (!has_length(call->index, told->buffer))
+		*len = held;
 	if (held > named)
 		memset(call->bytes[told->buffer] + named, FILLER, held - named);
 }
@@ -145,6 +151,21 @@ static void lend_page(struct input *input, uint8_t *data, uint8_t *spare)
 	take_flips(input, spare, REAM_SMALL_SPARE_SIZE);
 }
 
+/* A list of failed steps: a byte for how many, then their numbers. One below 128 stands for a plan's step, or for a
+ * number close past its end. */
+static void lend_failed(struct test *test, struct input *input)
+{
+	uint8_t failed[UINT8_MAX];
+	const uint8_t count = take(input);
+
+	for (unsigned i = 0; i < count; i++) {
+		failed[i] = take(input);
+		if (failed[i] < 128)
+			failed[i] %= MOST_STEPS + 2;
+	}
+	call_lend_named(test, "failed", failed, count);
+}
+
 static void lend_region(struct fuzz *fuzz, struct input *input, uint64_t n, unsigned size)
 {
 	const struct region *region = &fuzz->build.region;
@@ -154,6 +175,7 @@ static void lend_region(struct fuzz *fuzz, struct input *input, uint64_t n, unsi
 	call_lend_named(test, "image", region->image, region_image_len(region));
 	call_lend_named(test, "status", region->status, region_status_len(region));
 	call_lend_named(test, "wanted", fuzz->build.table[1], (size_t)n / 4);
+	lend_failed(test, input);
 }
 
 /* Any bytes in each buffer that is no output. */

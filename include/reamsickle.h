@@ -36,7 +36,8 @@
  *   own. Both blocks lie in the region.
  *
  *	OOB byte	holds
- *	0-13		the controller's bytes; 0 in OOB 0 of a block's first page can mark a bad block
+ *	0-13		the controller's bytes; 0 in OOB 0 of a block's first page can mark a bad block, as can 0
+ *			in all 64 bytes
  *	14-17		signature, primary 42 62 74 30, mirror 31 74 62 42
  *	18		version, 0 to 255; after 255 comes 0
  *	19-63		FF
@@ -44,39 +45,64 @@
  *   The region is lent as two buffers. The image has the first P pages of each of its blocks, lowest block
  *   first, each page 2,048 + 64 bytes: size * P * 2,112 bytes. The status has a byte for each of these pages
  *   in the same order, REAM_READ_WELL or REAM_UNREADABLE: size * P bytes. An unreadable page's bytes may be
- *   anything. ream_image_size() and ream_status_size() give the sizes for an N and a size, ream_table_pages()
- *   and ream_bitmap_size() for an N; ream_region_fits() tells whether the entries take an N and a size.
+ *   anything, but the OOB of a block's first page is lent as the chip gives it, even then: it can say that the
+ *   block is bad. ream_image_size() and ream_status_size() give the sizes for an N and a size,
+ *   ream_table_pages() and ream_bitmap_size() for an N; ream_region_fits() tells whether the entries take an N
+ *   and a size.
  *
  *   A block is a good primary (a good mirror) if its P pages all read well, with that signature and with one
- *   version. It is readable as bad if its first page reads well, has neither signature, and OOB byte 0 is 0.
- *   The pair is settled if there is exactly one good primary and exactly one good mirror, with equal
- *   versions and equal bitmaps.
+ *   version. It is readable as bad if its first page reads well, has neither signature, and OOB byte 0 is 0, or
+ *   if all 64 OOB bytes of its first page are 0, whether that reads well or not. The pair is settled if there is
+ *   exactly one good primary and exactly one good mirror, with equal versions and equal bitmaps.
  *
- *   No answer depends on any other byte of a region than these: the status, and of pages that read well the
- *   bitmap's bytes, OOB 14-18, and OOB 0 of a block's first page.
+ *   No answer depends on any other byte of a region than these: the status; of pages that read well the
+ *   bitmap's bytes, OOB 14-18, and OOB 0 of a block's first page; and the 64 OOB bytes of each block's first
+ *   page, also of an unreadable one, by whether all of them are 0.
  *
- * Plans and power cuts
+ * Plans, failed steps and power cuts
  *
  *   A plan is a list of steps for the driver to carry out in their order, each to its end before the next
- *   begins. A step erases a block, or writes one page of a copy into an erased block. Steps are numbered from
- *   0. A plan's version is the one that its pages carry. The page that a step writes is asked for by the step's
- *   number, from the snapshot that the plan was made from:
+ *   begins. A step erases a block, writes one page of a copy into an erased block, or writes zeros into the OOB
+ *   of a block that failed. Steps are numbered from 0. A plan's version is the one that its pages carry. The
+ *   page that a step writes is asked for by the step's number, from the snapshot that the plan was made from:
  *
  *	read the region: this is the snapshot; keep it, and the wanted bitmap, to the plan's end
- *	plan: ream_update_plan() or ream_recovery_plan()
+ *	begin a list of failed steps: it is empty
+ *	plan, with the list: ream_update_plan() or ream_recovery_plan()
  *	for each step of the plan, in order:
  *		an erase: erase its block
- *		a write: ask ream_update_page() or ream_recovery_page() for the page, with the same snapshot
- *			and the step's number; write these 2,112 bytes to the step's block and page
+ *		a write: ask ream_update_page() or ream_recovery_page() for the page, with the same snapshot and
+ *			list and the step's number; write these 2,112 bytes to the step's block and page
+ *		a zero step: program all 64 OOB bytes of its block's first page with 00, without an erase before
+ *			it; leave the page's data bytes out, or give FF for them
  *
- *   A power cut ends the plan. The driver then reads the region again, plans a recovery from what it finds and
- *   carries that out; if power fails in the recovery, the same again. So it reads its table like this:
+ *   The chip may report, while power is on, that a step failed. The plan then goes on without that block:
+ *
+ *	add the step's number to the end of the list
+ *	plan again, with the same snapshot, the same wanted bitmap and the list
+ *	if that is answered: carry out what it gives, from its step 0
+ *	if it is refused, REAM_NO_TARGET or REAM_ZERO_FAILED: carry out nothing more; go on as after a power cut
+ *
+ *   What planning gives then begins with a zero step on the failed block, which is readable as bad from there
+ *   on: it is retired, and no later plan touches it. Then the copy that the block was for is written to another
+ *   one, from its first page on. It is the same update or recovery, with the same table and the same version,
+ *   its steps are numbered from 0, and a step of it may fail in its turn. ream_update_plan() has the rule.
+ *
+ *   REAM_NO_TARGET (11) says that no block is left for the copy, REAM_ZERO_FAILED (12) that the step that failed
+ *   was a zero step. There is no further plan then, and no zero step: the region is as if power had been cut in
+ *   the failed step, and the driver does as after a cut. The recovery that it plans, with an empty list, is not
+ *   refused. The failed block may not be retired, so that a plan can choose it again: take the chip out of
+ *   service soon.
+ *
+ *   A power cut ends the plan, and its list. The driver then reads the region again, plans a recovery from what
+ *   it finds and carries that out; if power fails in the recovery, the same again. So it reads its table like
+ *   this:
  *
  *	read the region; ream_table_read()
  *	if that is refused with REAM_NOT_SETTLED: plan a recovery, carry it out, start again
  *
- *   An update has its new primary complete before it touches the mirror. So whatever is cut, these are the good
- *   copies that can be found:
+ *   An update has its new primary complete before it touches the mirror. So whatever fails or is cut, these are
+ *   the good copies that can be found:
  *
  *	primary	mirror	what a recovery does		and the table is
  *	old	old	nothing				the old one
@@ -85,24 +111,37 @@
  *	new	none	makes the mirror		the new one
  *	new	new	nothing				the new one
  *
- *   From any settled pair, whatever is planned and wherever power fails, in a recovery too: after each recovery
- *   that is carried out to its end the pair is settled and holds the whole old table or the whole new one of the
- *   last update, with its version, the new one exactly if every page of the new primary was complete when the
- *   update's plan ended, was cut or was replaced by another. An entry that a settled table calls not good is the
- *   same in every later settled one. No step touches a block outside the region or erases one that is readable
- *   as bad, and no recovery is refused for what the region holds.
+ *   From any settled pair, whatever is planned, whichever steps fail and wherever power fails, in a recovery too:
+ *   after each recovery that is carried out to its end the pair is settled and holds the whole old table or the
+ *   whole new one of the last update, with its version: the new one exactly if, when the update ended, was cut,
+ *   was given up for REAM_NO_TARGET or REAM_ZERO_FAILED, or was replaced by another plan, a new primary stood in
+ *   some block with all its pages complete. Planning again after a failed step is none of these: the update goes
+ *   on. An entry that a settled table calls not good is the same in every later settled one. No step touches a
+ *   block outside the region or erases one that is readable as bad. No recovery that is planned with an empty
+ *   list is refused for what the region holds.
  *
- *   That rests on what the chip and its driver see to. Nobody else writes in the region. An erase that is done
- *   leaves the block's P pages blank: they read well and are all FF. A write that is done leaves its page
- *   complete: it reads well, with data and OOB 14-63 as asked; in OOB 0-13 the controller may put anything. A
- *   cut erase leaves each page as it was, blank or unreadable, a cut write leaves its page blank, complete or
- *   unreadable, and all other pages keep reading the same.
+ *   That rests on what the chip and its driver see to. Nobody else writes in the region. All pages but those that
+ *   a step is on keep reading the same.
+ *
+ *	an erase	done		leaves the block's P pages blank: they read well and are all FF
+ *			cut or failed	leaves each of them as it was, blank or unreadable
+ *	a write		done		leaves its page complete: it reads well, with data and OOB 14-63 as asked;
+ *					in OOB 0-13 the controller may put anything
+ *			cut or failed	leaves its page blank, complete or unreadable
+ *	a zero step	done		leaves the 64 OOB bytes of the first page 0; its data may be anything, and it
+ *					may read well or not
+ *			cut or failed	leaves the first page as it was, as one that is done does, or unreadable
+ *
+ *   So a page whose write is reported as failed may be complete, and counts as complete if it is. A first page
+ *   that a cut or failed erase or write leaves unreadable is lent with at least one OOB byte that is not 0: a
+ *   driver that gets no bytes for such a page lends FF.
  *
  * How to call
  *
  *   Every number is a uint64_t and is judged as a whole; none is cut to a smaller width. Every buffer
  *   is a pointer followed by its length in bytes. A buffer marked "out" has a length too, and is
- *   refused like any other when that length is not the one named.
+ *   refused like any other when that length is not the one named. The list of failed steps has no length named:
+ *   any is taken.
  *
  *   Every entry returns one uint64_t, the answer:
  *
@@ -117,9 +156,11 @@
  *
  *   A refused call changes no lent byte, outputs included. Where several things are wrong at once the
  *   order of judging decides: N and size (2), then all lengths (1), then the other arguments (2), then what
- *   the page holds (3, 4, 5, 6) or what the region holds (8, 7, 9, then 10 or 11). A step's number can only be
- *   judged once the plan is known, so its refusal (2) comes last of all. While N or size is refused no length
- *   is judged. Each entry below names the refusals it can give, in its order.
+ *   the page holds (3, 4, 5, 6) or what the region holds (8, 7, 9, then 10 or 11). Then come the failed steps,
+ *   oldest first: for each its number (2), whether it is a zero step (12), and whether there is a target (11);
+ *   the first refusal that is met is the answer, and the list is not looked at further. The number of the step
+ *   whose page is asked for (2) comes last of all. While N or size is refused no length is judged. Each entry
+ *   below names the refusals it can give, in its order.
  *
  * What the library cannot see, and the caller owes
  *
@@ -146,8 +187,8 @@
  * The library's own version, as text and as a number to compare: 10,000 * major + 100 * minor + patch.
  * (ream_version() gives that of a table or a plan.)
  */
-#define REAM_LIBRARY_VERSION "2.0"
-#define REAM_LIBRARY_VERSION_NUMBER 20000
+#define REAM_LIBRARY_VERSION "3.0"
+#define REAM_LIBRARY_VERSION_NUMBER 30000
 
 /* The refusals. */
 enum ream_refusal_number {
@@ -162,7 +203,8 @@ enum ream_refusal_number {
 	REAM_SEVERAL_COPIES = 8,	/* two or more good copies of one kind */
 	REAM_OPPOSITE = 9,	/* both copies good, versions 128 apart */
 	REAM_NOT_SETTLED = 10,	/* reading or update: the pair is not settled, and none of 7 to 9 */
-	REAM_NO_TARGET = 11,	/* recovery: there is no block to write the missing copy to */
+	REAM_NO_TARGET = 11,	/* planning: there is no block for a copy that is missing or whose block failed */
+	REAM_ZERO_FAILED = 12,	/* planning: the failed step is a zero step */
 };
 
 /* The detail of REAM_BAD_BLOCK. */
@@ -224,6 +266,7 @@ enum ream_page_status {
 enum ream_step_kind {
 	REAM_ERASE = 0,		/* erases a block */
 	REAM_WRITE = 1,		/* writes one page */
+	REAM_ZERO = 2,		/* writes zeros to all 64 OOB bytes of a block's first page */
 };
 
 /* The large chip's sizes: in bytes, where no other unit is named. */
@@ -235,6 +278,7 @@ enum ream_large_size {
 	REAM_REGION_BLOCKS_MAX = 7,	/* the largest */
 	REAM_STEP_SIZE = 4,		/* a step of a plan */
 	REAM_STEPS_SIZE = 64,		/* the room that planning asks for, 16 steps */
+	REAM_FAILED_MAX = 6,		/* room for any list of failed steps: one of size - 1 or more is refused */
 	REAM_BLOCKS_MIN = 8,		/* the smallest N */
 	REAM_BLOCKS_MAX = 32768,	/* the largest N, and with it and the largest region: */
 	REAM_IMAGE_SIZE_MAX = 59136,
@@ -353,25 +397,39 @@ uint64_t ream_table_read(uint64_t n, uint64_t size, const uint8_t *image, size_t
  *	image	size * P * 2,112 bytes, the region's pages
  *	status	size * P bytes, how each of them was read
  *	wanted	N/4 bytes, a bitmap
+ *	failed	any number of bytes: the numbers of the steps that failed, oldest first; none for a first plan
  *	steps	64 bytes, out, room for 16 steps; ream_step_get() takes the four bytes of a step apart:
  *		0	kind, enum ream_step_kind
  *		1-2	chip block, big endian, N - size to N - 1
- *		3	page, 0 to P - 1; 0 for an erase
+ *		3	page, 0 to P - 1; 0 for an erase and for a zero step
  *		Bytes past the plan's last step keep what they held.
  *
  * If the new table is the old one, the plan is empty and its version is the pair's. Otherwise it has 2P + 2
  * steps: erase the primary's block, write its P pages in rising order, erase the mirror's block, write its P
  * pages in rising order, all with the pair's version plus 1 (0 after 255).
  *
+ * For each failed step, oldest first, the plan becomes another one, of the same table and version, with steps
+ * numbered from 0. A failed step's number is that in the plan as it stood after the failures before it.
+ *
+ *	a zero step on the failed step's block
+ *	the erase and all P pages of the copy that this step belonged to, in the highest block of the region that
+ *	  is neither the other copy's, nor readable as bad in the image, nor the block of a failed step
+ *	if that copy was the plan's first of two: the erase and all P pages of the other one, as they were planned
+ *
+ * The other copy's block is the one that it stands in, or will stand in by the plan. A plan has at most
+ * 2P + 3 steps: 11.
+ *
  * An answered call gives the plan's version (bits 8-15) and its number of steps (bits 16-23):
  * ream_version(), ream_step_count().
  *
  * Refuses, in this order: REAM_RANGE (n or size); REAM_LENGTH; REAM_RANGE (a status byte); REAM_SEVERAL_COPIES;
- * REAM_NO_COPY; REAM_OPPOSITE; REAM_NOT_SETTLED. image, status and wanted are never changed.
+ * REAM_NO_COPY; REAM_OPPOSITE; REAM_NOT_SETTLED; then for each failed step, oldest first: REAM_RANGE (a number past
+ * the end of its plan, so every number where the plan is empty); REAM_ZERO_FAILED (that of a zero step);
+ * REAM_NO_TARGET. image, status, wanted and failed are never changed.
  */
 uint64_t ream_update_plan(uint64_t n, uint64_t size, const uint8_t *image, size_t image_len,
 			  const uint8_t *status, size_t status_len, const uint8_t *wanted, size_t wanted_len,
-			  uint8_t *steps, size_t steps_len);
+			  const uint8_t *failed, size_t failed_len, uint8_t *steps, size_t steps_len);
 
 /*
  * Plans the recovery of a pair, settled or not.
@@ -380,6 +438,7 @@ uint64_t ream_update_plan(uint64_t n, uint64_t size, const uint8_t *image, size_
  *	size	the number of region blocks
  *	image	size * P * 2,112 bytes, the region's pages
  *	status	size * P bytes, how each of them was read
+ *	failed	any number of bytes: as of ream_update_plan()
  *	steps	64 bytes, out: as of ream_update_plan()
  *
  * Of two good copies the newer is the one whose version is 1 to 127 ahead of the other's, counted modulo
@@ -395,51 +454,54 @@ uint64_t ream_update_plan(uint64_t n, uint64_t size, const uint8_t *image, size_
  *					readable as bad and write the missing kind there: P + 1 steps, the
  *					good copy's version
  *
+ * For each failed step the plan becomes another one, as that of an update does.
+ *
  * An answered call gives the plan's version (bits 8-15) and its number of steps (bits 16-23):
  * ream_version(), ream_step_count().
  *
  * Refuses, in this order: REAM_RANGE (n or size); REAM_LENGTH; REAM_RANGE (a status byte); REAM_SEVERAL_COPIES;
- * REAM_NO_COPY; REAM_OPPOSITE; REAM_NO_TARGET. image and status are never changed.
+ * REAM_NO_COPY; REAM_OPPOSITE; REAM_NO_TARGET; then for each failed step, oldest first: REAM_RANGE (a number past the
+ * end of its plan, so every number where the plan is empty); REAM_ZERO_FAILED (that of a zero step);
+ * REAM_NO_TARGET. image, status and failed are never changed.
  */
 uint64_t ream_recovery_plan(uint64_t n, uint64_t size, const uint8_t *image, size_t image_len,
-			    const uint8_t *status, size_t status_len, uint8_t *steps, size_t steps_len);
+			    const uint8_t *status, size_t status_len, const uint8_t *failed, size_t failed_len,
+			    uint8_t *steps, size_t steps_len);
 
 /*
  * The page that a step of an update's plan writes.
  *
- *	n, size, image, status, wanted
- *		as ream_update_plan() was called with: the snapshot that the plan was made from, not the region
- *		as it is by now
- *	step	the step's number in that plan, from 0
+ *	n, size, image, status, wanted, failed
+ *		as ream_update_plan() was called with: the snapshot that the first plan was made from, not the
+ *		region as it is by now, and the failed steps that led to the plan in hand
+ *	step	the step's number in the plan in hand, from 0
  *	page	2,112 bytes, out: the page's data, then its OOB
  *
  * The data is the page's part of the new table, with FF after the bitmap's end. In the OOB stand the signature
  * of the copy that the step belongs to (14-17) and the plan's version (18); all other OOB bytes are FF.
  *
- * Refuses, in this order: REAM_RANGE (n or size); REAM_LENGTH; REAM_RANGE (a status byte); REAM_SEVERAL_COPIES;
- * REAM_NO_COPY; REAM_OPPOSITE; REAM_NOT_SETTLED; REAM_RANGE (a step past the plan's end, or of an erase, so
- * every step of an empty plan). image, status and wanted are never changed.
+ * Refuses, in this order: what ream_update_plan() refuses; REAM_RANGE (a step past the plan's end, or of an erase or
+ * a zero step, so every step of an empty plan). image, status, wanted and failed are never changed.
  */
 uint64_t ream_update_page(uint64_t n, uint64_t size, const uint8_t *image, size_t image_len,
 			  const uint8_t *status, size_t status_len, const uint8_t *wanted, size_t wanted_len,
-			  uint64_t step, uint8_t *page, size_t page_len);
+			  const uint8_t *failed, size_t failed_len, uint64_t step, uint8_t *page, size_t page_len);
 
 /*
  * The page that a step of a recovery's plan writes.
  *
- *	n, size, image, status
- *		as ream_recovery_plan() was called with: the snapshot that the plan was made from, not the
- *		region as it is by now
- *	step	the step's number in that plan, from 0
+ *	n, size, image, status, failed
+ *		as ream_recovery_plan() was called with: the snapshot that the first plan was made from, not the
+ *		region as it is by now, and the failed steps that led to the plan in hand
+ *	step	the step's number in the plan in hand, from 0
  *	page	2,112 bytes, out: as of ream_update_page(), with the table that the recovery keeps
  *
- * Refuses, in this order: REAM_RANGE (n or size); REAM_LENGTH; REAM_RANGE (a status byte); REAM_SEVERAL_COPIES;
- * REAM_NO_COPY; REAM_OPPOSITE; REAM_NO_TARGET; REAM_RANGE (a step past the plan's end, or of an erase, so
- * every step of an empty plan). image and status are never changed.
+ * Refuses, in this order: what ream_recovery_plan() refuses; REAM_RANGE (a step past the plan's end, or of an erase
+ * or a zero step, so every step of an empty plan). image, status and failed are never changed.
  */
 uint64_t ream_recovery_page(uint64_t n, uint64_t size, const uint8_t *image, size_t image_len,
-			    const uint8_t *status, size_t status_len, uint64_t step,
-			    uint8_t *page, size_t page_len);
+			    const uint8_t *status, size_t status_len, const uint8_t *failed, size_t failed_len,
+			    uint64_t step, uint8_t *page, size_t page_len);
 
 #ifdef __cplusplus
 }
@@ -508,7 +570,9 @@ static inline const char *ream_refusal_text(unsigned refusal)
 	case REAM_NOT_SETTLED:
 		return "the pair of tables is not settled";
 	case REAM_NO_TARGET:
-		return "there is no block to recover to";
+		return "there is no block to write a copy to";
+	case REAM_ZERO_FAILED:
+		return "a step that writes zeros failed";
 	default:
 		return "unknown refusal";
 	}
@@ -595,7 +659,7 @@ static inline void ream_entry_set(uint8_t *bitmap, uint64_t block, unsigned entr
 struct ream_step {
 	uint8_t kind;		/* one of enum ream_step_kind */
 	uint16_t block;		/* chip block, N - size to N - 1 */
-	uint8_t page;		/* 0 to P - 1; 0 for an erase */
+	uint8_t page;		/* 0 to P - 1; 0 for an erase and for a zero step */
 };
 
 /* The numbers in the four bytes of a step. Step i of a plan starts at byte REAM_STEP_SIZE * i of its steps. */
@@ -612,7 +676,7 @@ static inline struct ream_step ream_step_get(const uint8_t bytes[REAM_STEP_SIZE]
 /*
  * The entries again, for callers whose pointers may be null: a null pointer is lent as a buffer of no
  * bytes, whatever the length beside it says. So it is refused as a wrong length is, in the same place
- * of the order.
+ * of the order; only failed may have no bytes, so a null pointer there says that no step failed.
  */
 static inline uint64_t ream_half_code_checked(const uint8_t *half, size_t half_len,
 					      uint8_t *code, size_t code_len)
@@ -676,6 +740,7 @@ static inline uint64_t ream_table_read_checked(uint64_t n, uint64_t size, const 
 static inline uint64_t ream_update_plan_checked(uint64_t n, uint64_t size, const uint8_t *image, size_t image_len,
 						const uint8_t *status, size_t status_len,
 						const uint8_t *wanted, size_t wanted_len,
+						const uint8_t *failed, size_t failed_len,
 						uint8_t *steps, size_t steps_len)
 {
 	uint8_t none[1] = { 0 };
@@ -683,41 +748,48 @@ static inline uint64_t ream_update_plan_checked(uint64_t n, uint64_t size, const
 	return ream_update_plan(n, size, image ? image : none, image ? image_len : 0,
 				status ? status : none, status ? status_len : 0,
 				wanted ? wanted : none, wanted ? wanted_len : 0,
+				failed ? failed : none, failed ? failed_len : 0,
 				steps ? steps : none, steps ? steps_len : 0);
 }
 
 static inline uint64_t ream_recovery_plan_checked(uint64_t n, uint64_t size, const uint8_t *image, size_t image_len,
 						  const uint8_t *status, size_t status_len,
+						  const uint8_t *failed, size_t failed_len,
 						  uint8_t *steps, size_t steps_len)
 {
 	uint8_t none[1] = { 0 };
 
 	return ream_recovery_plan(n, size, image ? image : none, image ? image_len : 0,
 				  status ? status : none, status ? status_len : 0,
+				  failed ? failed : none, failed ? failed_len : 0,
 				  steps ? steps : none, steps ? steps_len : 0);
 }
 
 static inline uint64_t ream_update_page_checked(uint64_t n, uint64_t size, const uint8_t *image, size_t image_len,
 						const uint8_t *status, size_t status_len,
-						const uint8_t *wanted, size_t wanted_len, uint64_t step,
+						const uint8_t *wanted, size_t wanted_len,
+						const uint8_t *failed, size_t failed_len, uint64_t step,
 						uint8_t *page, size_t page_len)
 {
 	uint8_t none[1] = { 0 };
 
 	return ream_update_page(n, size, image ? image : none, image ? image_len : 0,
 				status ? status : none, status ? status_len : 0,
-				wanted ? wanted : none, wanted ? wanted_len : 0, step,
+				wanted ? wanted : none, wanted ? wanted_len : 0,
+				failed ? failed : none, failed ? failed_len : 0, step,
 				page ? page : none, page ? page_len : 0);
 }
 
 static inline uint64_t ream_recovery_page_checked(uint64_t n, uint64_t size, const uint8_t *image, size_t image_len,
-						  const uint8_t *status, size_t status_len, uint64_t step,
+						  const uint8_t *status, size_t status_len,
+						  const uint8_t *failed, size_t failed_len, uint64_t step,
 						  uint8_t *page, size_t page_len)
 {
 	uint8_t none[1] = { 0 };
 
 	return ream_recovery_page(n, size, image ? image : none, image ? image_len : 0,
-				  status ? status : none, status ? status_len : 0, step,
+				  status ? status : none, status ? status_len : 0,
+				  failed ? failed : none, failed ? failed_len : 0, step,
 				  page ? page : none, page ? page_len : 0);
 }
 

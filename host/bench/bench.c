@@ -61,6 +61,7 @@ static double timed(struct bench *bench, const struct trial *trial, const struct
 	double start, time;
 
 	trial->lend(bench);
+	bench->failed = trial->failed;
 	start = now();
 	for (unsigned i = 0; i < times; i++)
 		refusals |= trial->round(bench, by);

@@ -38,13 +38,13 @@ struct implementation {
 	uint64_t (*table_read)(uint64_t, uint64_t, const uint8_t *, size_t, const uint8_t *, size_t,
 			       uint8_t *, size_t);
 	uint64_t (*update_plan)(uint64_t, uint64_t, const uint8_t *, size_t, const uint8_t *, size_t,
-				const uint8_t *, size_t, uint8_t *, size_t);
+				const uint8_t *, size_t, const uint8_t *, size_t, uint8_t *, size_t);
 	uint64_t (*recovery_plan)(uint64_t, uint64_t, const uint8_t *, size_t, const uint8_t *, size_t,
-				  uint8_t *, size_t);
+				  const uint8_t *, size_t, uint8_t *, size_t);
 	uint64_t (*update_page)(uint64_t, uint64_t, const uint8_t *, size_t, const uint8_t *, size_t,
-				const uint8_t *, size_t, uint64_t, uint8_t *, size_t);
-	uint64_t (*recovery_page)(uint64_t, uint64_t, const uint8_t *, size_t, const uint8_t *, size_t, uint64_t,
-				  uint8_t *, size_t);
+				const uint8_t *, size_t, const uint8_t *, size_t, uint64_t, uint8_t *, size_t);
+	uint64_t (*recovery_page)(uint64_t, uint64_t, const uint8_t *, size_t, const uint8_t *, size_t,
+				  const uint8_t *, size_t, uint64_t, uint8_t *, size_t);
 };
 
 /* The inputs as prepared, and what is lent of them. */
@@ -68,16 +68,18 @@ struct bench {
 	uint8_t wanted[REGIONS][MOST_BITMAP];		/* the same with one entry changed */
 	uint8_t factory[REGIONS][MOST_BLOCKS];		/* marks as prepared */
 	uint8_t marks[REGIONS][MOST_BLOCKS];		/* lent */
+	size_t failed;					/* how many steps of each plan failed */
 	uint8_t bitmap[MOST_BITMAP];
 	uint8_t steps[64];
 	uint8_t page[PAGE_BYTES];
 };
 
-/* A row of a table that is printed: an entry, on inputs that are lent anew for each round. A round goes through
- * all of them and gathers the refusals: one that is not 0 shows. */
+/* A row of a table that is printed: an entry, on inputs that are lent anew for each round, with so many failed
+ * steps. A round goes through all of them and gathers the refusals: one that is not 0 shows. */
 struct trial {
 	const char *entry;
 	const char *inputs;
+	size_t failed;
 	void (*lend)(struct bench *);
 	unsigned (*round)(struct bench *, const struct implementation *);
 };

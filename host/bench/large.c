@@ -69,6 +69,16 @@ static void lend_marks(struct bench *bench)
 
 /* ---- a round of each entry. A region stands in a call as its image and its status. */
 
+/* The steps that fail, as many as a trial asks for: the first page of the plan's first copy, then the same of the
+ * plan that it becomes. */
+static const uint8_t failed[2] = { 1, 2 };
+
+/* The step that writes a page of the plan's first copy. Once a step has failed, a zero step comes before them. */
+static uint64_t step_of(const struct bench *bench, unsigned page)
+{
+	return (bench->failed == 0 ? 1 : 2) + page;
+}
+
 #define LENT(region) \
 	(region)->n, (region)->size, (region)->image, region_image_len(region), (region)->status, \
 	region_status_len(region)
@@ -100,7 +110,7 @@ static unsigned plan_updates(struct bench *bench, const struct implementation *b
 
 	for (unsigned i = 0; i < REGIONS; i++)
 		refusals |= ream_refusal(by->update_plan(LENT(&bench->region[i]), wanted[i], bench->bitmap_len,
-							 bench->steps, 64));
+							 failed, bench->failed, bench->steps, 64));
 	return refusals;
 }
 
@@ -119,7 +129,8 @@ static unsigned round_recovery_plan(struct bench *bench, const struct implementa
 	unsigned refusals = 0;
 
 	for (unsigned i = 0; i < REGIONS; i++)
-		refusals |= ream_refusal(by->recovery_plan(LENT(&bench->region[i]), bench->steps, 64));
+		refusals |= ream_refusal(by->recovery_plan(LENT(&bench->region[i]), failed, bench->failed,
+							   bench->steps, 64));
 	return refusals;
 }
 
@@ -132,7 +143,8 @@ static unsigned round_update_page(struct bench *bench, const struct implementati
 		const struct region *region = &bench->region[i];
 
 		refusals |= ream_refusal(by->update_page(LENT(region), bench->wanted[i], bench->bitmap_len,
-							 1 + i % region->pages, bench->page, PAGE_BYTES));
+							 failed, bench->failed, step_of(bench, i % region->pages),
+							 bench->page, PAGE_BYTES));
 	}
 	return refusals;
 }
@@ -144,8 +156,9 @@ static unsigned round_recovery_page(struct bench *bench, const struct implementa
 	for (unsigned i = 0; i < REGIONS; i++) {
 		const struct region *region = &bench->region[i];
 
-		refusals |= ream_refusal(by->recovery_page(LENT(region), 1 + i % region->pages,
-							   bench->page, PAGE_BYTES));
+		refusals |= ream_refusal(by->recovery_page(LENT(region), failed, bench->failed,
+							   step_of(bench, i % region->pages), bench->page,
+							   PAGE_BYTES));
 	}
 	return refusals;
 }
@@ -155,29 +168,46 @@ static unsigned round_recovery_page(struct bench *bench, const struct implementa
 /* ---- the trials */
 
 static const struct trial large_trials[] = {
-	{ "ream_first_bitmap", "marks", lend_marks, round_first_bitmap },
-	{ "ream_table_read", "settled pairs", lend_settled, round_table_read },
-	{ "ream_update_plan", "settled pairs, one entry changed", lend_settled, round_update_plan },
-	{ "ream_update_plan", "settled pairs, nothing changed", lend_settled, round_empty_plan },
-	{ "ream_update_page", "settled pairs, one entry changed", lend_settled, round_update_page },
-	{ "ream_recovery_plan", "settled pairs: nothing to do", lend_settled, round_recovery_plan },
-	{ "ream_recovery_plan", "mirror one version behind", lend_behind, round_recovery_plan },
-	{ "ream_recovery_plan", "primary alone", lend_alone, round_recovery_plan },
-	{ "ream_recovery_plan", "versions equal, bitmaps different", lend_differing, round_recovery_plan },
-	{ "ream_recovery_page", "mirror one version behind", lend_behind, round_recovery_page },
-	{ "ream_recovery_page", "primary alone", lend_alone, round_recovery_page },
-	{ "ream_recovery_page", "versions equal, bitmaps different", lend_differing, round_recovery_page },
+	{ "ream_first_bitmap", "marks", 0, lend_marks, round_first_bitmap },
+	{ "ream_table_read", "settled pairs", 0, lend_settled, round_table_read },
+	{ "ream_update_plan", "settled pairs, one entry changed", 0, lend_settled, round_update_plan },
+	{ "ream_update_plan", "the same after one failed step", 1, lend_settled, round_update_plan },
+	{ "ream_update_plan", "the same after two failed steps", 2, lend_settled, round_update_plan },
+	{ "ream_update_plan", "settled pairs, nothing changed", 0, lend_settled, round_empty_plan },
+	{ "ream_update_page", "settled pairs, one entry changed", 0, lend_settled, round_update_page },
+	{ "ream_update_page", "the same after one failed step", 1, lend_settled, round_update_page },
+	{ "ream_update_page", "the same after two failed steps", 2, lend_settled, round_update_page },
+	{ "ream_recovery_plan", "settled pairs: nothing to do", 0, lend_settled, round_recovery_plan },
+	{ "ream_recovery_plan", "mirror one version behind", 0, lend_behind, round_recovery_plan },
+	{ "ream_recovery_plan", "the same after one failed step", 1, lend_behind, round_recovery_plan },
+	{ "ream_recovery_plan", "the same after two failed steps", 2, lend_behind, round_recovery_plan },
+	{ "ream_recovery_plan", "primary alone", 0, lend_alone, round_recovery_plan },
+	{ "ream_recovery_plan", "the same after one failed step", 1, lend_alone, round_recovery_plan },
+	{ "ream_recovery_plan", "the same after two failed steps", 2, lend_alone, round_recovery_plan },
+	{ "ream_recovery_plan", "versions equal, bitmaps different", 0, lend_differing, round_recovery_plan },
+	{ "ream_recovery_plan", "the same after one failed step", 1, lend_differing, round_recovery_plan },
+	{ "ream_recovery_plan", "the same after two failed steps", 2, lend_differing, round_recovery_plan },
+	{ "ream_recovery_page", "mirror one version behind", 0, lend_behind, round_recovery_page },
+	{ "ream_recovery_page", "the same after one failed step", 1, lend_behind, round_recovery_page },
+	{ "ream_recovery_page", "the same after two failed steps", 2, lend_behind, round_recovery_page },
+	{ "ream_recovery_page", "primary alone", 0, lend_alone, round_recovery_page },
+	{ "ream_recovery_page", "the same after one failed step", 1, lend_alone, round_recovery_page },
+	{ "ream_recovery_page", "the same after two failed steps", 2, lend_alone, round_recovery_page },
+	{ "ream_recovery_page", "versions equal, bitmaps different", 0, lend_differing, round_recovery_page },
+	{ "ream_recovery_page", "the same after one failed step", 1, lend_differing, round_recovery_page },
+	{ "ream_recovery_page", "the same after two failed steps", 2, lend_differing, round_recovery_page },
 };
 
 enum { TRIALS = sizeof(large_trials) / sizeof(large_trials[0]) };
 
 /* Those that are timed by the size of the region. */
 static const struct trial size_trials[] = {
-	{ "ream_table_read", "settled pairs, others blank", lend_settled, round_table_read },
-	{ "ream_table_read", "settled pairs, others half copies", lend_crowded, round_table_read },
-	{ "ream_update_plan", "settled pairs, others half copies", lend_crowded, round_update_plan },
-	{ "ream_recovery_plan", "primary alone, others blank", lend_alone, round_recovery_plan },
-	{ "ream_recovery_plan", "primary alone, others half copies", lend_crowded_alone, round_recovery_plan },
+	{ "ream_table_read", "settled pairs, others blank", 0, lend_settled, round_table_read },
+	{ "ream_table_read", "settled pairs, others half copies", 0, lend_crowded, round_table_read },
+	{ "ream_update_plan", "settled pairs, others half copies", 0, lend_crowded, round_update_plan },
+	{ "ream_recovery_plan", "primary alone, others blank", 0, lend_alone, round_recovery_plan },
+	{ "ream_recovery_plan", "primary alone, others half copies", 0, lend_crowded_alone, round_recovery_plan },
+	{ "ream_recovery_plan", "the same after two failed steps", 2, lend_crowded_alone, round_recovery_plan },
 };
 
 enum { SIZE_TRIALS = sizeof(size_trials) / sizeof(size_trials[0]) };

@@ -73,12 +73,12 @@ static unsigned round_page_read(struct bench *bench, const struct implementation
 /* ---- the trials */
 
 static const struct trial small_trials[] = {
-	{ "ream_half_code", "halves", lend_clean, round_half_code },
-	{ "ream_spare_write", "pages", lend_clean, round_spare_write },
-	{ "ream_spare_read", "spares as written", lend_clean, round_spare_read },
-	{ "ream_spare_read", "spares, one bit of the path word flipped", lend_clean, round_spare_read_worn },
-	{ "ream_page_read", "pages as written", lend_clean, round_page_read },
-	{ "ream_page_read", "pages, one data bit flipped", lend_flipped, round_page_read },
+	{ "ream_half_code", "halves", 0, lend_clean, round_half_code },
+	{ "ream_spare_write", "pages", 0, lend_clean, round_spare_write },
+	{ "ream_spare_read", "spares as written", 0, lend_clean, round_spare_read },
+	{ "ream_spare_read", "spares, one bit of the path word flipped", 0, lend_clean, round_spare_read_worn },
+	{ "ream_page_read", "pages as written", 0, lend_clean, round_page_read },
+	{ "ream_page_read", "pages, one data bit flipped", 0, lend_flipped, round_page_read },
 };
 
 enum { TRIALS = sizeof(small_trials) / sizeof(small_trials[0]) };

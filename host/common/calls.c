@@ -35,10 +35,10 @@ CALLS(spare_read, LENT(0), LENT(1))
 CALLS(page_read, LENT(0), LENT(1), LENT(2))
 CALLS(first_bitmap, number[0], number[1], LENT(0), LENT(1))
 CALLS(table_read, number[0], number[1], LENT(0), LENT(1), LENT(2))
-CALLS(update_plan, number[0], number[1], LENT(0), LENT(1), LENT(2), LENT(3))
-CALLS(recovery_plan, number[0], number[1], LENT(0), LENT(1), LENT(2))
-CALLS(update_page, number[0], number[1], LENT(0), LENT(1), LENT(2), number[2], LENT(3))
-CALLS(recovery_page, number[0], number[1], LENT(0), LENT(1), number[2], LENT(2))
+CALLS(update_plan, number[0], number[1], LENT(0), LENT(1), LENT(2), LENT(3), LENT(4))
+CALLS(recovery_plan, number[0], number[1], LENT(0), LENT(1), LENT(2), LENT(3))
+CALLS(update_page, number[0], number[1], LENT(0), LENT(1), LENT(2), LENT(3), number[2], LENT(4))
+CALLS(recovery_page, number[0], number[1], LENT(0), LENT(1), LENT(2), number[2], LENT(3))
 
 #undef LENT
 #undef CALLS
@@ -47,6 +47,7 @@ CALLS(recovery_page, number[0], number[1], LENT(0), LENT(1), number[2], LENT(2))
 #define IMAGE { "image", 2112, PAGE_OF_REGION, IN }
 #define STATUS { "status", 1, PAGE_OF_REGION, IN }
 #define WANTED { "wanted", 1, BYTE_OF_BITMAP, IN }
+#define FAILED { "failed", 0, ANY_LENGTH, IN }
 #define STEPS { "steps", 64, BYTE, OUT }
 #define PAGE { "page", 2112, BYTE, OUT }
 
@@ -83,22 +84,22 @@ const struct entry entries[ENTRIES] = {
 	},
 	[UPDATE_PLAN] = {
 		"ream_update_plan", 2, { "n", "size" },
-		4, { IMAGE, STATUS, WANTED, STEPS },
+		5, { IMAGE, STATUS, WANTED, FAILED, STEPS },
 		library_update_plan, reference_update_plan,
 	},
 	[RECOVERY_PLAN] = {
 		"ream_recovery_plan", 2, { "n", "size" },
-		3, { IMAGE, STATUS, STEPS },
+		4, { IMAGE, STATUS, FAILED, STEPS },
 		library_recovery_plan, reference_recovery_plan,
 	},
 	[UPDATE_PAGE] = {
 		"ream_update_page", 3, { "n", "size", "step" },
-		4, { IMAGE, STATUS, WANTED, PAGE },
+		5, { IMAGE, STATUS, WANTED, FAILED, PAGE },
 		library_update_page, reference_update_page,
 	},
 	[RECOVERY_PAGE] = {
 		"ream_recovery_page", 3, { "n", "size", "step" },
-		3, { IMAGE, STATUS, PAGE },
+		4, { IMAGE, STATUS, FAILED, PAGE },
 		library_recovery_page, reference_recovery_page,
 	},
 };
@@ -106,6 +107,7 @@ const struct entry entries[ENTRIES] = {
 #undef IMAGE
 #undef STATUS
 #undef WANTED
+#undef FAILED
 #undef STEPS
 #undef PAGE
 
@@ -139,6 +141,11 @@ bool has_buffer(enum entry_index index, const char *name)
 	return buffer_place(index, name) < entries[index].buffers;
 }
 
+bool has_length(enum entry_index index, unsigned i)
+{
+	return entries[index].buffer[i].unit != ANY_LENGTH;
+}
+
 /* ---- messages */
 
 /* A buffer's name, its length and its first bytes, as they were lent. */
@@ -152,9 +159,11 @@ static void show_buffer(const char *name, const uint8_t *bytes, size_t len)
 	printf("%s\n", held > SHOWN_BYTES ? " .." : "");
 }
 
-/* What counts of each page of a region, image and status: how it reads, its mark, signature and version. */
+/* What counts of each page of a region, image and status: how it reads, its mark, signature and version, and whether
+ * its OOB is all zeros. */
 static void show_region(const struct call *call)
 {
+	static const uint8_t zeros[64];
 	const size_t pages = call->len[1];
 
 	if (call->len[0] != 2112 * pages || lent_held(call->len[0]) != call->len[0])
@@ -162,8 +171,9 @@ static void show_region(const struct call *call)
 	for (size_t page = 0; page < pages; page++) {
 		const uint8_t *oob = call->bytes[0] + 2112 * page + 2048;
 
-		printf("    page %-5zustatus %02X, OOB 0 %02X, OOB 14-18 %02X %02X %02X %02X %02X\n", page,
-		       call->bytes[1][page], oob[0], oob[14], oob[15], oob[16], oob[17], oob[18]);
+		printf("    page %-5zustatus %02X, OOB 0 %02X, OOB 14-18 %02X %02X %02X %02X %02X%s\n", page,
+		       call->bytes[1][page], oob[0], oob[14], oob[15], oob[16], oob[17], oob[18],
+		       memcmp(oob, zeros, sizeof(zeros)) == 0 ? ", 64 zeros" : "");
 	}
 }
 
@@ -245,6 +255,7 @@ static uint64_t units(enum unit unit, uint64_t n, uint64_t size)
 	case PAGE_OF_REGION:
 		return size * (n / 4 / 2048 + (n / 4 % 2048 != 0));
 	case BYTE:
+	case ANY_LENGTH:
 		break;
 	}
 	return 1;
@@ -273,6 +284,8 @@ void call_begin(struct test *test, enum entry_index index)
 void call_lend(struct test *test, unsigned i, const uint8_t *bytes, size_t len)
 {
 	memcpy(test->call.bytes[i], bytes, len);
+	if (!has_length(test->call.index, i))
+		test->call.len[i] = len;
 }
 
 void call_lend_named(struct test *test, const char *name, const uint8_t *bytes, size_t len)

@@ -4,9 +4,9 @@
  * besides: an input is never changed, and a refused call changes nothing.
  *
  * A call is made in three steps: call_begin(), or call_begin_large() for an entry of the large chip, names the
- * entry, sets every length to the one that document 01 names and fills the outputs with bytes drawn anew;
- * call_lend(), or a store to the call's numbers, lengths and bytes, sets the rest; call_compare() makes the
- * call both ways.
+ * entry, sets every length to the one that document 01 names, or to 0 where any goes, and fills the outputs with
+ * bytes drawn anew; call_lend(), or a store to the call's numbers, lengths and bytes, sets the rest; call_compare()
+ * makes the call both ways.
  *
  * An entry is a row of the table `entries`. A new entry of the library is a new row, at its end.
  */
@@ -21,7 +21,7 @@
 
 enum {
 	MOST_NUMBERS = 3,
-	MOST_BUFFERS = 4,
+	MOST_BUFFERS = 5,
 	MOST_DIFFERENCES = 5,	/* a test ends after this many */
 	SHOWN_BYTES = 16,	/* a message shows so many bytes of a buffer */
 };
@@ -35,8 +35,8 @@ enum entry_index {
 
 enum direction { IN, OUT, IN_OUT };
 
-/* What a buffer's length is counted in. */
-enum unit { BYTE, BLOCK_OF_CHIP, BYTE_OF_BITMAP, PAGE_OF_REGION };
+/* What a buffer's length is counted in; or any length goes, and none is wrong. */
+enum unit { BYTE, BLOCK_OF_CHIP, BYTE_OF_BITMAP, PAGE_OF_REGION, ANY_LENGTH };
 
 /* An entry with its numbers, its buffers and their lengths in arrays, each in the order of the parameters. */
 typedef uint64_t entry_call(const uint64_t *number, uint8_t *const *at, const size_t *len);
@@ -62,6 +62,10 @@ extern const struct entry entries[ENTRIES];
  * as their first two numbers. */
 bool has_number(enum entry_index index, const char *name);
 bool has_buffer(enum entry_index index, const char *name);
+
+/* Is there a length of an entry's buffer i that is wrong? Of a list that may have any length there is none, and the
+ * bytes that are told of are really there. */
+bool has_length(enum entry_index index, unsigned i);
 
 /* What a call is made with. */
 struct call {
@@ -91,7 +95,7 @@ void call_begin(struct test *test, enum entry_index index);
  * numbers. */
 void call_begin_large(struct test *test, enum entry_index index, uint64_t n, uint64_t size);
 
-/* Sets the first bytes of buffer i. */
+/* Sets the first bytes of buffer i. Where any length goes, this is it. */
 void call_lend(struct test *test, unsigned i, const uint8_t *bytes, size_t len);
 
 /* The same of the buffer, or the number, of this name, if the entry has it and it is no output. */

@@ -55,6 +55,14 @@ void drawn_spoil(uint64_t *state, struct region *region, unsigned block, unsigne
 	}
 }
 
+/* The same of an unreadable page. 64 zero OOB bytes of a first page count, and stay. */
+static void stir_unreadable(uint64_t *state, struct region *region, unsigned block, unsigned page)
+{
+	const bool counts = page == 0 && region_zeroed(region, block);
+
+	draw_bytes(state, region_data(region, block, page), counts ? PAGE_DATA : PAGE_BYTES);
+}
+
 /* The same of one page. */
 static void stir_page(uint64_t *state, struct region *region, unsigned block, unsigned page)
 {
@@ -63,7 +71,7 @@ static void stir_page(uint64_t *state, struct region *region, unsigned block, un
 	const size_t part = region_part_len(region, page);
 
 	if (*region_status(region, block, page) == 1) {
-		draw_bytes(state, data, PAGE_BYTES);
+		stir_unreadable(state, region, block, page);
 		return;
 	}
 	draw_bytes(state, data + part, PAGE_DATA - part);

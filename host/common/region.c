@@ -93,10 +93,29 @@ bool region_good(const struct region *region, unsigned block, enum kind kind)
 	return true;
 }
 
+unsigned region_zeros(const struct region *region, unsigned block)
+{
+	const uint8_t *oob = region_page(region, block, 0) + PAGE_DATA;
+	unsigned zeros = 0;
+
+	for (unsigned i = 0; i < PAGE_OOB; i++)
+		zeros += oob[i] == 0;
+	return zeros;
+}
+
+bool region_zeroed(const struct region *region, unsigned block)
+{
+	static const uint8_t zeros[PAGE_OOB];
+
+	return memcmp(region_page(region, block, 0) + PAGE_DATA, zeros, PAGE_OOB) == 0;
+}
+
 bool region_bad(const struct region *region, unsigned block)
 {
-	return region_reads_well(region, block, 0) && !region_signed(region, block, 0, PRIMARY) &&
-	       !region_signed(region, block, 0, MIRROR) && region_page(region, block, 0)[PAGE_DATA] == 0;
+	const bool marked = region_reads_well(region, block, 0) && !region_signed(region, block, 0, PRIMARY) &&
+			    !region_signed(region, block, 0, MIRROR) && region_page(region, block, 0)[PAGE_DATA] == 0;
+
+	return marked || region_zeroed(region, block);
 }
 
 void region_sign(struct region *region, unsigned block, unsigned page, enum kind kind)

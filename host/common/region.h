@@ -65,7 +65,11 @@ void region_erase(struct region *region, unsigned block);
 /* Does a page carry the signature of a kind? */
 bool region_signed(const struct region *region, unsigned block, unsigned page, enum kind kind);
 
-/* Document 01's words: is a block a good copy of a kind? Is it readable as bad? */
+/* How many OOB bytes of a block's first page are 0? All 64? */
+unsigned region_zeros(const struct region *region, unsigned block);
+bool region_zeroed(const struct region *region, unsigned block);
+
+/* The documents' words: is a block a good copy of a kind? Is it readable as bad? */
 bool region_good(const struct region *region, unsigned block, enum kind kind);
 bool region_bad(const struct region *region, unsigned block);
 

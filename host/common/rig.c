@@ -1,4 +1,4 @@
-/* A chip on a rig that cuts its power. */
+/* A chip on a rig that cuts its power and lets its steps fail. */
 #include "rig.h"
 
 #include <string.h>
@@ -31,6 +31,19 @@ static void fill(uint64_t *state, uint8_t *bytes, size_t len)
 		draw_bytes(state, bytes, len);
 		break;
 	}
+}
+
+/* One of the OOB bytes of a block's first page made another than 0: at either end, or anywhere. */
+static void spoil_zeros(uint64_t *state, struct region *region, unsigned block)
+{
+	const uint64_t place = draw_below(state, 3 * PAGE_OOB);
+	uint8_t *oob = region_oob(region, block, 0);
+	const uint8_t byte = (uint8_t)(1 + draw_below(state, 255));
+
+	if (place < PAGE_OOB)
+		oob[place] = byte;
+	else
+		oob[place < 2 * PAGE_OOB ? 0 : PAGE_OOB - 1] = byte;
 }
 
 /* ---- starts */
@@ -93,6 +106,19 @@ static void fill_bad(uint64_t *state, struct region *region, unsigned block, con
 	memset(oob, 0, SIGNATURE + 1);
 }
 
+/* The OOB of the first page all zeros, or all but one byte. The rest is blank, or that of a copy. */
+static void fill_zeroed(uint64_t *state, struct region *region, unsigned block, const struct start *start,
+			const uint8_t *table)
+{
+	region_erase(region, block);
+	if (draw_below(state, 2) == 0)
+		region_copy(region, block, (enum kind)draw_below(state, KINDS), start->version, table);
+	rig_zero(state, region, block);
+	*region_status(region, block, 0) = start->filling[block] != FILLED_ZEROED;
+	if (start->filling[block] == FILLED_NEARLY_ZEROED)
+		spoil_zeros(state, region, block);
+}
+
 static void fill_block(uint64_t *state, struct region *region, unsigned block, const struct start *start,
 		       const uint8_t *table)
 {
@@ -118,9 +144,65 @@ static void fill_block(uint64_t *state, struct region *region, unsigned block, c
 	case FILLED_HALF_MIRROR:
 		fill_half(state, region, block, MIRROR, start, table);
 		break;
+	case FILLED_ZEROED:
+	case FILLED_ZEROED_UNREADABLE:
+	case FILLED_NEARLY_ZEROED:
 	case FILLINGS:
 		break;
 	}
+}
+
+/* The blocks that show zeros, once nothing else is drawn in them. An unreadable block that shows 64 zeros by chance is
+ * named for it. */
+static void fill_zeros(uint64_t *state, struct region *region, struct start *start, const uint8_t *table)
+{
+	for (unsigned block = 0; block < start->size; block++) {
+		if (start->filling[block] >= FILLED_ZEROED)
+			fill_zeroed(state, region, block, start, table);
+		if (start->filling[block] == FILLED_UNREADABLE && region_zeroed(region, block))
+			start->filling[block] = FILLED_ZEROED_UNREADABLE;
+	}
+}
+
+/* Where the pair stands, with the first so many of the fillings in the blocks beside it. */
+static void draw_start(uint64_t *state, uint64_t n, unsigned size, unsigned fillings, struct start *start)
+{
+	start->n = n;
+	start->size = size;
+	start->version = draw_version(state);
+	start->block[PRIMARY] = (unsigned)draw_below(state, size);
+	start->block[MIRROR] = (start->block[PRIMARY] + 1 + (unsigned)draw_below(state, size - 1)) % size;
+	for (unsigned block = 0; block < size; block++)
+		start->filling[block] = (enum filling)(1 + draw_below(state, fillings - 1));
+	start->filling[start->block[PRIMARY]] = start->filling[start->block[MIRROR]] = FILLED_PAIR;
+}
+
+/* Blank blocks in place of those that are readable as bad, so that many steps can fail. */
+static void spare_bad(struct start *start)
+{
+	for (unsigned block = 0; block < start->size; block++) {
+		const enum filling filling = start->filling[block];
+
+		if (filling == FILLED_BAD || filling == FILLED_ZEROED || filling == FILLED_ZEROED_UNREADABLE)
+			start->filling[block] = FILLED_BLANK;
+	}
+}
+
+/* The region of a start. */
+static void fill_region(uint64_t *state, struct start *start, struct region *region)
+{
+	uint8_t table[MOST_BITMAP];
+
+	drawn_table(state, table, start->n);
+	region_begin(region, start->n, start->size);
+	for (unsigned block = 0; block < start->size; block++)
+		fill_block(state, region, block, start, table);
+	if (draw_below(state, 2) == 0)
+		drawn_stir(state, region);
+	for (unsigned kind = 0; kind < KINDS; kind++)
+		for (unsigned page = 0; page < region->pages; page++)
+			fill(state, region_oob(region, start->block[kind], page), SIGNATURE);
+	fill_zeros(state, region, start, table);
 }
 
 void rig_start(uint64_t *state, struct start *start, struct region *region)
@@ -128,31 +210,16 @@ void rig_start(uint64_t *state, struct start *start, struct region *region)
 	const uint64_t *of_pages = chips[draw_below(state, MOST_PAGES)];
 	const uint64_t n = of_pages[draw_below(state, CHIPS)];
 
-	rig_start_on(state, n, drawn_size(state, n), start, region);
+	draw_start(state, n, drawn_size(state, n), FILLINGS, start);
+	if (draw_below(state, 2) == 0)
+		spare_bad(start);
+	fill_region(state, start, region);
 }
 
 void rig_start_on(uint64_t *state, uint64_t n, unsigned size, struct start *start, struct region *region)
 {
-	uint8_t table[MOST_BITMAP];
-
-	start->n = n;
-	start->size = size;
-	start->version = draw_version(state);
-	start->block[PRIMARY] = (unsigned)draw_below(state, size);
-	start->block[MIRROR] = (start->block[PRIMARY] + 1 + (unsigned)draw_below(state, size - 1)) % size;
-	for (unsigned block = 0; block < size; block++)
-		start->filling[block] = (enum filling)(1 + draw_below(state, FILLINGS - 1));
-	start->filling[start->block[PRIMARY]] = start->filling[start->block[MIRROR]] = FILLED_PAIR;
-
-	drawn_table(state, table, n);
-	region_begin(region, n, size);
-	for (unsigned block = 0; block < size; block++)
-		fill_block(state, region, block, start, table);
-	if (draw_below(state, 2) == 0)
-		drawn_stir(state, region);
-	for (unsigned kind = 0; kind < KINDS; kind++)
-		for (unsigned page = 0; page < region->pages; page++)
-			fill(state, region_oob(region, start->block[kind], page), SIGNATURE);
+	draw_start(state, n, size, FILLED_HALF_MIRROR + 1, start);
+	fill_region(state, start, region);
 }
 
 /* ---- steps */
@@ -164,11 +231,19 @@ static void set_blank(struct region *region, unsigned block, unsigned page)
 }
 
 /* An unreadable page, over what it held or over anything. */
-static void set_unreadable(uint64_t *state, struct region *region, unsigned block, unsigned page)
+static void set_any_unreadable(uint64_t *state, struct region *region, unsigned block, unsigned page)
 {
 	if (draw_below(state, 2) == 0)
 		fill(state, region_data(region, block, page), PAGE_BYTES);
 	*region_status(region, block, page) = 1;
+}
+
+/* The same by the premise: a first page shows at least one OOB byte that is not 0. */
+static void set_unreadable(uint64_t *state, struct region *region, unsigned block, unsigned page)
+{
+	set_any_unreadable(state, region, block, page);
+	if (page == 0 && region_zeroed(region, block))
+		spoil_zeros(state, region, block);
 }
 
 void rig_write(uint64_t *state, struct region *region, unsigned block, unsigned page, const uint8_t *image)
@@ -176,6 +251,14 @@ void rig_write(uint64_t *state, struct region *region, unsigned block, unsigned 
 	memcpy(region_data(region, block, page), image, PAGE_BYTES);
 	fill(state, region_oob(region, block, page), SIGNATURE);
 	*region_status(region, block, page) = 0;
+}
+
+void rig_zero(uint64_t *state, struct region *region, unsigned block)
+{
+	if (draw_below(state, 2) == 0)
+		fill(state, region_data(region, block, 0), PAGE_DATA);
+	memset(region_oob(region, block, 0), 0, PAGE_OOB);
+	*region_status(region, block, 0) = (uint8_t)draw_below(state, 2);
 }
 
 void rig_cut_erase(uint64_t *state, struct region *region, unsigned block, enum left left[MOST_PAGES])
@@ -205,5 +288,22 @@ enum left rig_cut_write(uint64_t *state, struct region *region, unsigned block, 
 		rig_write(state, region, block, page, image);
 	if (left == LEFT_UNREADABLE)
 		set_unreadable(state, region, block, page);
+	return left;
+}
+
+enum left rig_cut_zero(uint64_t *state, struct region *region, unsigned block)
+{
+	static const enum left choices[] = { LEFT_AS_IT_WAS, LEFT_ZEROED, LEFT_UNREADABLE };
+	const enum left left = choices[draw_below(state, 3)];
+
+	if (left == LEFT_ZEROED)
+		rig_zero(state, region, block);
+	if (left != LEFT_UNREADABLE)
+		return left;
+	set_any_unreadable(state, region, block, 0);
+	if (draw_below(state, 2) == 0)
+		memset(region_oob(region, block, 0), 0, PAGE_OOB);
+	if (region_zeroed(region, block) && draw_below(state, 4) == 0)
+		spoil_zeros(state, region, block);
 	return left;
 }

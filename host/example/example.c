@@ -1,11 +1,13 @@
 /*
  * An example for drivers, in two parts. The small chip: writes the spare of a page, flips one bit as a worn
  * chip would, reads the page back through the library, and shows a refusal. The large chip: reads the
- * bad-block table, marks a block as gone bad and reads the table back; then power fails in such an update, and
- * a recovery settles the pair again.
+ * bad-block table, marks a block as gone bad and reads the table back; then an erase fails in such an update, so
+ * that a block of the region is retired and the update goes on in another; then power fails in an update, and a
+ * recovery settles the pair again.
  */
 #include <inttypes.h>
 #include <limits.h>
+#include <stdbool.h>
 #include <stdio.h>
 #include <stdlib.h>
 #include <string.h>
@@ -79,37 +81,91 @@ enum {
 	REGION_PAGES = REGION * PAGES,
 };
 
-/* The region as it is lent. Here the chip itself is such a region, in memory. */
+/* The region as it is lent. */
 struct region {
 	uint8_t image[REGION_PAGES * REAM_LARGE_PAGE_SIZE];
 	uint8_t status[REGION_PAGES];
 };
 
-/* A plan, with the snapshot it was made from. */
+/* ---- the chip: its region in memory, with a block that is worn. Steps give false where the chip reports that they
+ * failed. */
+
+struct chip {
+	struct region region;
+	unsigned worn;		/* erases of this block fail; no block 0 lies in a region */
+};
+
+/* A page of the chip, by its block and its place in it. */
+static uint8_t *chip_page(struct chip *chip, unsigned block, unsigned page)
+{
+	return chip->region.image + ((block - (BLOCKS - REGION)) * PAGES + page) * REAM_LARGE_PAGE_SIZE;
+}
+
+static bool chip_erase(struct chip *chip, unsigned block)
+{
+	if (block == chip->worn)
+		return false;
+	memset(chip_page(chip, block, 0), 0xFF, PAGES * REAM_LARGE_PAGE_SIZE);
+	return true;
+}
+
+static bool chip_write(struct chip *chip, unsigned block, unsigned page, const uint8_t *bytes)
+{
+	memcpy(chip_page(chip, block, page), bytes, REAM_LARGE_PAGE_SIZE);
+	return true;
+}
+
+static bool chip_write_zeros(struct chip *chip, unsigned block)
+{
+	memset(chip_page(chip, block, 0) + REAM_LARGE_DATA_SIZE, 0, REAM_LARGE_OOB_SIZE);
+	return true;
+}
+
+/* ---- plans */
+
+/* A plan, with what it was made from. */
 struct plan {
 	struct region snapshot;
-	const uint8_t *wanted;	/* of an update; a recovery has none */
+	const uint8_t *wanted;			/* of an update; a recovery has none */
+	uint8_t failed[REAM_FAILED_MAX];	/* the steps that failed, oldest first */
+	size_t failed_count;
 	uint8_t steps[REAM_STEPS_SIZE];
 	unsigned count;
 };
 
-/* Makes a plan for the region as it is now. */
-static uint64_t plan_make(struct plan *plan, const struct region *chip, const uint8_t *wanted)
+/* Plans from the snapshot and the steps that failed. */
+static uint64_t plan_make(struct plan *plan)
 {
 	const struct region *from = &plan->snapshot;
 	uint64_t answer;
 
-	plan->snapshot = *chip;
-	plan->wanted = wanted;
-	if (wanted)
+	if (plan->wanted)
 		answer = ream_update_plan(BLOCKS, REGION, from->image, sizeof(from->image), from->status,
-					  sizeof(from->status), wanted, BITMAP_SIZE, plan->steps,
-					  sizeof(plan->steps));
+					  sizeof(from->status), plan->wanted, BITMAP_SIZE, plan->failed,
+					  plan->failed_count, plan->steps, sizeof(plan->steps));
 	else
 		answer = ream_recovery_plan(BLOCKS, REGION, from->image, sizeof(from->image), from->status,
-					    sizeof(from->status), plan->steps, sizeof(plan->steps));
+					    sizeof(from->status), plan->failed, plan->failed_count, plan->steps,
+					    sizeof(plan->steps));
 	plan->count = ream_refusal(answer) == REAM_OK ? ream_step_count(answer) : 0;
 	return answer;
+}
+
+/* A first plan, for the region as it is. */
+static uint64_t plan_first(struct plan *plan, const struct chip *chip, const uint8_t *wanted)
+{
+	plan->snapshot = chip->region;
+	plan->wanted = wanted;
+	plan->failed_count = 0;
+	return plan_make(plan);
+}
+
+/* The plan after step i failed. The list has room for it: the longest that can come about is refused, and ends the
+ * plan. */
+static uint64_t plan_again(struct plan *plan, unsigned i)
+{
+	plan->failed[plan->failed_count++] = (uint8_t)i;
+	return plan_make(plan);
 }
 
 /* The page that step i of a plan writes. */
@@ -119,52 +175,69 @@ static uint64_t plan_page(const struct plan *plan, unsigned i, uint8_t page[REAM
 
 	if (plan->wanted)
 		return ream_update_page(BLOCKS, REGION, from->image, sizeof(from->image), from->status,
-					sizeof(from->status), plan->wanted, BITMAP_SIZE, i, page,
-					REAM_LARGE_PAGE_SIZE);
+					sizeof(from->status), plan->wanted, BITMAP_SIZE, plan->failed,
+					plan->failed_count, i, page, REAM_LARGE_PAGE_SIZE);
 	return ream_recovery_page(BLOCKS, REGION, from->image, sizeof(from->image), from->status,
-				  sizeof(from->status), i, page, REAM_LARGE_PAGE_SIZE);
+				  sizeof(from->status), plan->failed, plan->failed_count, i, page,
+				  REAM_LARGE_PAGE_SIZE);
 }
 
-/* Carries out step i of a plan on the chip. */
-static uint64_t plan_step(const struct plan *plan, unsigned i, struct region *chip)
+/* Carries out step i of a plan, and tells whether it was done: the chip may report that it failed. */
+static uint64_t plan_step(const struct plan *plan, unsigned i, struct chip *chip, bool *done)
 {
 	const struct ream_step step = ream_step_get(plan->steps + REAM_STEP_SIZE * i);
-	const unsigned place = (step.block - (BLOCKS - REGION)) * PAGES + step.page;
 	uint8_t page[REAM_LARGE_PAGE_SIZE];
-	uint64_t answer;
+	uint64_t answer = REAM_OK;
 
-	if (step.kind == REAM_ERASE) {
+	switch (step.kind) {
+	case REAM_ERASE:
 		printf("  step %u: erase block %u\n", i, step.block);
-		memset(chip->image + place * REAM_LARGE_PAGE_SIZE, 0xFF, PAGES * REAM_LARGE_PAGE_SIZE);
-		return REAM_OK;
+		*done = chip_erase(chip, step.block);
+		break;
+	case REAM_ZERO:
+		printf("  step %u: write zeros to the OOB of page 0 of block %u\n", i, step.block);
+		*done = chip_write_zeros(chip, step.block);
+		break;
+	case REAM_WRITE:
+		printf("  step %u: write page %u of block %u\n", i, step.page, step.block);
+		answer = plan_page(plan, i, page);
+		*done = ream_refusal(answer) == REAM_OK && chip_write(chip, step.block, step.page, page);
+		break;
 	}
-	printf("  step %u: write page %u of block %u\n", i, step.page, step.block);
-	answer = plan_page(plan, i, page);
-	if (ream_refusal(answer) == REAM_OK)
-		memcpy(chip->image + place * REAM_LARGE_PAGE_SIZE, page, sizeof(page));
 	return answer;
 }
 
 /* Plans an update to `wanted`, or a recovery where that is null, and carries out its steps up to the end or
- * to where power fails. */
-static int carry_out(struct region *chip, const uint8_t *wanted, unsigned power)
+ * to where power fails, after so many steps. Gives the refusal that ended it, or REAM_OK. */
+static unsigned carry_out(struct chip *chip, const uint8_t *wanted, unsigned power)
 {
 	struct plan plan;
-	uint64_t answer = plan_make(&plan, chip, wanted);
+	uint64_t answer = plan_first(&plan, chip, wanted);
+	unsigned i = 0;
 
-	for (unsigned i = 0; i < plan.count && i < power && ream_refusal(answer) == REAM_OK; i++)
-		answer = plan_step(&plan, i, chip);
-	if (ream_refusal(answer) == REAM_OK)
-		return EXIT_SUCCESS;
-	print_refusal("carrying out a plan", answer);
-	return EXIT_FAILURE;
+	while (ream_refusal(answer) == REAM_OK && i < plan.count && power-- > 0) {
+		bool done = false;
+
+		answer = plan_step(&plan, i, chip, &done);
+		if (done) {
+			i++;
+		} else if (ream_refusal(answer) == REAM_OK) {
+			printf("  step %u failed; the plan becomes:\n", i);
+			answer = plan_again(&plan, i);
+			i = 0;
+		}
+	}
+	if (ream_refusal(answer) != REAM_OK)
+		print_refusal("carrying out a plan", answer);
+	return ream_refusal(answer);
 }
 
 /* Reads the table, and says which version it has, where it is and what it tells of a block. */
-static unsigned read_table(const struct region *chip, uint8_t bitmap[BITMAP_SIZE], unsigned block)
+static unsigned read_table(const struct chip *chip, uint8_t bitmap[BITMAP_SIZE], unsigned block)
 {
-	const uint64_t answer = ream_table_read(BLOCKS, REGION, chip->image, sizeof(chip->image), chip->status,
-						sizeof(chip->status), bitmap, BITMAP_SIZE);
+	const struct region *region = &chip->region;
+	const uint64_t answer = ream_table_read(BLOCKS, REGION, region->image, sizeof(region->image), region->status,
+						sizeof(region->status), bitmap, BITMAP_SIZE);
 
 	if (ream_refusal(answer) == REAM_OK)
 		printf("table read: version %u, primary in block %u, mirror in block %u; entry of block %u is %u\n",
@@ -173,6 +246,15 @@ static unsigned read_table(const struct region *chip, uint8_t bitmap[BITMAP_SIZE
 	else
 		print_refusal("table read", answer);
 	return ream_refusal(answer);
+}
+
+/* Updates the table to one with a block marked late, with power for so many steps, and reads it back. Whatever ended
+ * the plan, its last step, a power cut or a refusal after a failed step, reading tells whether a recovery is due. */
+static unsigned mark_late(struct chip *chip, uint8_t bitmap[BITMAP_SIZE], unsigned block, unsigned power)
+{
+	ream_entry_set(bitmap, block, REAM_ENTRY_LATE);
+	carry_out(chip, bitmap, power);
+	return read_table(chip, bitmap, block);
 }
 
 /* A page of the first table as a maker puts it on the chip: all blocks good. */
@@ -185,32 +267,36 @@ static void lay_out_page(uint8_t *page, const char signature[4], uint8_t version
 
 static int large_chip(void)
 {
-	struct region chip;
+	struct chip chip = { .worn = 0 };
 	uint8_t bitmap[BITMAP_SIZE];
 
 	/* A settled pair: mirror and primary in the last two blocks. */
-	memset(chip.image, 0xFF, sizeof(chip.image));
-	memset(chip.status, REAM_READ_WELL, sizeof(chip.status));
-	lay_out_page(chip.image + 2 * REAM_LARGE_PAGE_SIZE, "1tbB", 5);
-	lay_out_page(chip.image + 3 * REAM_LARGE_PAGE_SIZE, "Bbt0", 5);
+	memset(chip.region.image, 0xFF, sizeof(chip.region.image));
+	memset(chip.region.status, REAM_READ_WELL, sizeof(chip.region.status));
+	lay_out_page(chip_page(&chip, 1022, 0), "1tbB", 5);
+	lay_out_page(chip_page(&chip, 1023, 0), "Bbt0", 5);
 	if (read_table(&chip, bitmap, 17) != REAM_OK)
 		return EXIT_FAILURE;
 
 	/* Block 17 went bad in use: the table read, with that entry set, is the one wanted. */
 	printf("update, block 17 late:\n");
-	ream_entry_set(bitmap, 17, REAM_ENTRY_LATE);
-	if (carry_out(&chip, bitmap, UINT_MAX) != EXIT_SUCCESS || read_table(&chip, bitmap, 17) != REAM_OK)
+	if (mark_late(&chip, bitmap, 17, UINT_MAX) != REAM_OK)
 		return EXIT_FAILURE;
 
-	/* So did block 18, but power fails after two steps: the primary is new, the mirror still old. */
-	printf("update, block 18 late, power cut after step 1:\n");
-	ream_entry_set(bitmap, 18, REAM_ENTRY_LATE);
-	if (carry_out(&chip, bitmap, 2) != EXIT_SUCCESS || read_table(&chip, bitmap, 18) != REAM_NOT_SETTLED)
+	/* So did block 18, and the mirror's own block cannot be erased: it is retired, and the mirror moves. */
+	printf("update, block 18 late, erases of block 1022 fail:\n");
+	chip.worn = 1022;
+	if (mark_late(&chip, bitmap, 18, UINT_MAX) != REAM_OK)
+		return EXIT_FAILURE;
+
+	/* So did block 19, but power fails after two steps: the primary is new, the mirror still old. */
+	printf("update, block 19 late, power cut after step 1:\n");
+	if (mark_late(&chip, bitmap, 19, 2) != REAM_NOT_SETTLED)
 		return EXIT_FAILURE;
 
 	/* A recovery brings the mirror up to the primary. */
 	printf("recovery:\n");
-	if (carry_out(&chip, NULL, UINT_MAX) != EXIT_SUCCESS || read_table(&chip, bitmap, 18) != REAM_OK)
+	if (carry_out(&chip, NULL, UINT_MAX) != REAM_OK || read_table(&chip, bitmap, 19) != REAM_OK)
 		return EXIT_FAILURE;
 	return EXIT_SUCCESS;
 }

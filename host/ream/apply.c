@@ -36,30 +36,63 @@ static bool copy_as_it_is(FILE *stream, const struct copy *copy)
 	return copied;
 }
 
-/* Copies the dump and carries out the plan there: an erase makes every page of its block blank. */
-static bool fill_copy(FILE *stream, const void *from)
+/* A copy that is being written. */
+struct writing {
+	FILE *stream;
+	const struct copy *copy;
+};
+
+/* Puts bytes into a page, from one of its bytes on. */
+static bool put(const struct writing *writing, unsigned block, unsigned page, size_t from, const uint8_t *bytes,
+		size_t len)
 {
-	const struct copy *copy = from;
+	const struct copy *copy = writing->copy;
+
+	return output_put(writing->stream, copy->path, dump_offset(copy->dump, block, page) + from, bytes, len);
+}
+
+/* Makes every page of a block blank. */
+static bool erase(const struct writing *writing, unsigned block)
+{
+	uint8_t blank[PAGE_BYTES];
+	bool done = true;
+
+	memset(blank, 0xFF, sizeof(blank));
+	for (unsigned page = 0; page < writing->copy->dump->pages_per_block && done; page++)
+		done = put(writing, block, page, 0, blank, sizeof(blank));
+	return done;
+}
+
+/* Makes the OOB of a block's first page 0. */
+static bool zero(const struct writing *writing, unsigned block)
+{
+	static const uint8_t zeros[PAGE_OOB];
+
+	return put(writing, block, 0, PAGE_DATA, zeros, sizeof(zeros));
+}
+
+/* Does a step on the copy. For plan_go_through(). */
+static bool do_step(const struct plan *plan, unsigned i, void *to)
+{
+	const struct writing *writing = to;
+	const struct ream_step step = plan_step(plan, i);
+	const unsigned block = plan_block(plan, &step);
 	uint8_t bytes[PAGE_BYTES];
 
-	if (!copy_as_it_is(stream, copy))
-		return false;
-	for (unsigned i = 0; i < copy->plan->count; i++) {
-		const struct ream_step step = plan_step(copy->plan, i);
-		const unsigned block = plan_block(copy->plan, &step);
-		const bool erases = step.kind == REAM_ERASE;
-		const unsigned pages = erases ? (unsigned)copy->dump->pages_per_block : 1;
+	if (step.kind == REAM_ERASE)
+		return erase(writing, block);
+	if (step.kind == REAM_ZERO)
+		return zero(writing, block);
+	plan_page(plan, i, bytes);
+	return put(writing, block, step.page, 0, bytes, sizeof(bytes));
+}
 
-		if (erases)
-			memset(bytes, 0xFF, sizeof(bytes));
-		else
-			plan_page(copy->plan, i, bytes);
-		for (unsigned page = step.page; page < step.page + pages; page++)
-			if (!output_put(stream, copy->path, dump_offset(copy->dump, block, page), bytes,
-					sizeof(bytes)))
-				return false;
-	}
-	return true;
+/* Copies the dump and carries out the plan there. */
+static bool fill_copy(FILE *stream, const void *from)
+{
+	struct writing writing = { stream, from };
+
+	return copy_as_it_is(stream, writing.copy) && plan_go_through(writing.copy->plan, do_step, &writing);
 }
 
 bool apply_begin(struct application *application, const struct applying *applying, const struct dump *dump,

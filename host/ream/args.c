@@ -88,7 +88,7 @@ static bool take_value(const struct syntax *syntax, const struct argument *argum
 	}
 	if (argument->number)
 		return take_number(syntax, argument, text);
-	if (*text == '\0') {
+	if (*text == '\0' && !argument->empty) {
 		complain("%s: --%s: expected a value, found an empty one", syntax->command, argument->name);
 		return false;
 	}

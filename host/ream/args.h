@@ -25,13 +25,14 @@ struct argument {
 	bool *flag;
 	const char **text;
 	struct texts *texts;
+	bool empty;		/* a text may be empty */
 	uint64_t *number;
 	uint64_t least, most;	/* of a number */
 	uint64_t multiple;	/* of which a number has to be one; 0 where any is taken */
 	const char *refusal;	/* that a number outside comes to; NULL where the library does not see it */
 };
 
-enum { MOST_ARGUMENTS = 12 };
+enum { MOST_ARGUMENTS = 16 };
 
 struct syntax {
 	const char *command;

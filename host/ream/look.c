@@ -15,6 +15,8 @@ static bool is_blank(const struct region *region, unsigned block, unsigned page)
 
 static enum page_look look_at_page(const struct region *region, unsigned block, unsigned page)
 {
+	if (page == 0 && region_zeroed(region, block))
+		return PAGE_RETIRED;
 	if (!region_reads_well(region, block, page))
 		return PAGE_UNREADABLE;
 	if (region_signed(region, block, page, PRIMARY))
@@ -42,6 +44,8 @@ static enum block_look whole(const struct look *look, const struct region *regio
 		return BLOCK_PRIMARY;
 	if (region_good(region, block, MIRROR))
 		return BLOCK_MIRROR;
+	if (region_zeroed(region, block))
+		return BLOCK_RETIRED;
 	if (region_bad(region, block))
 		return BLOCK_BAD;
 	if (number(look, PAGE_ERASED) == look->pages)
@@ -65,7 +69,7 @@ struct look look_at(const struct region *region, unsigned block)
 
 char look_letter(enum page_look page)
 {
-	static const char letters[PAGE_LOOKS + 1] = "PM-xB?";
+	static const char letters[PAGE_LOOKS + 1] = "PM-xBR?";
 
 	return letters[page];
 }
@@ -75,8 +79,8 @@ static const char *block_word(enum block_look block)
 {
 	static const char *const words[] = {
 		[BLOCK_PRIMARY] = "primary", [BLOCK_MIRROR] = "mirror", [BLOCK_ERASED] = "erased",
-		[BLOCK_UNREADABLE] = "unreadable", [BLOCK_BAD] = "bad", [BLOCK_PARTLY] = "partly",
-		[BLOCK_OTHER] = "other",
+		[BLOCK_UNREADABLE] = "unreadable", [BLOCK_BAD] = "bad", [BLOCK_RETIRED] = "retired",
+		[BLOCK_PARTLY] = "partly", [BLOCK_OTHER] = "other",
 	};
 
 	return words[block];
@@ -111,7 +115,12 @@ static void put_words(const struct look *look, const char *version, char words[L
 
 void look_words(const struct look *look, char words[LOOK_LEN])
 {
-	put_words(look, "v", words);
+	if (look->block == BLOCK_BAD)
+		snprintf(words, LOOK_LEN, "bad (marked)");
+	else if (look->block == BLOCK_RETIRED)
+		snprintf(words, LOOK_LEN, "bad (retired)");
+	else
+		put_words(look, "v", words);
 }
 
 void look_brief(const struct look *look, char words[LOOK_LEN])

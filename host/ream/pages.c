@@ -15,11 +15,26 @@
 
 static const char start[] = "step-";
 
+bool pages_has(const struct plan *plan, unsigned step)
+{
+	return plan_step(plan, step).kind != REAM_ERASE;
+}
+
 void pages_name(const struct plan *plan, unsigned step, char name[PAGE_NAME_LEN])
 {
 	const struct ream_step told = plan_step(plan, step);
 
-	snprintf(name, PAGE_NAME_LEN, "%s%02u-block-%u-page-%u.bin", start, step, told.block, told.page);
+	if (told.kind == REAM_ZERO)
+		snprintf(name, PAGE_NAME_LEN, "%s%02u-block-%u-zero.bin", start, step, told.block);
+	else
+		snprintf(name, PAGE_NAME_LEN, "%s%02u-block-%u-page-%u.bin", start, step, told.block, told.page);
+}
+
+/* The page of a zero step. */
+static void zero_page(uint8_t page[PAGE_BYTES])
+{
+	memset(page, 0xFF, PAGE_DATA);
+	memset(page + PAGE_DATA, 0, PAGE_OOB);
 }
 
 /* Writes a page. For struct output: from a struct page_file. */
@@ -28,7 +43,10 @@ static bool fill(FILE *stream, const void *from)
 	const struct page_file *file = from;
 	uint8_t page[PAGE_BYTES];
 
-	plan_page(file->plan, file->step, page);
+	if (plan_step(file->plan, file->step).kind == REAM_ZERO)
+		zero_page(page);
+	else
+		plan_page(file->plan, file->step, page);
 	fwrite(page, 1, sizeof(page), stream);
 	return true;
 }
@@ -42,7 +60,7 @@ static bool is_of_plan(const struct plan *plan, const char *name)
 		char own[PAGE_NAME_LEN];
 
 		pages_name(plan, i, own);
-		if (plan_step(plan, i).kind == REAM_WRITE && strcmp(name, own) == 0)
+		if (pages_has(plan, i) && strcmp(name, own) == 0)
 			return true;
 	}
 	return false;
@@ -119,7 +137,7 @@ bool pages_begin(struct pages *pages, const char *folder, const struct plan *pla
 		return true;
 	begun = make_folder(pages, plan);
 	for (unsigned i = 0; i < plan->count && begun; i++)
-		if (plan_step(plan, i).kind == REAM_WRITE)
+		if (pages_has(plan, i))
 			begun = add(pages, plan, i, outputs);
 	if (!begun)
 		pages_end(pages, false);

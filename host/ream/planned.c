@@ -4,6 +4,7 @@
 #include "apply.h"
 #include "differ.h"
 #include "dump.h"
+#include "failed.h"
 #include "geometry.h"
 #include "json.h"
 #include "marks.h"
@@ -14,18 +15,22 @@
 #include "tool.h"
 
 #define APPLY_HELP \
-	"  --apply OUT           carries the plan out on a copy of the dump, OUT\n" \
+	"  --failed S,S,..       the steps that failed on the chip, oldest first, each by\n" \
+	"                        its number in the plan as it was then: plans anew; the\n" \
+	"                        dump is the one that the first plan was made from\n" \
+	"  --apply OUT           carries the plan out on a copy of the dump, OUT, after\n" \
+	"                        what was done before steps failed\n" \
 	"  --status-out FILE     with --apply: writes the status file that belongs to it\n" \
-	"  --pages DIR           writes the page of each step that writes one, as a file\n" \
+	"  --pages DIR           writes the page of each step but the erases, as a file\n" \
 	"                        in the folder DIR\n" \
 	"  --force               replaces files that are there already\n" \
 	DUMP_HELP
 
 static const char update_help[] =
-	"usage: ream update --mark-late B,B,.. [--apply OUT [--status-out FILE]]\n"
-	"                   [--pages DIR] [--force] [--blocks N] [--region-blocks R]\n"
-	"                   [--pages-per-block K] [--status FILE] [--unreadable B:P,..]\n"
-	"                   [--json] DUMP\n"
+	"usage: ream update --mark-late B,B,.. [--failed S,S,..]\n"
+	"                   [--apply OUT [--status-out FILE]] [--pages DIR] [--force]\n"
+	"                   [--blocks N] [--region-blocks R] [--pages-per-block K]\n"
+	"                   [--status FILE] [--unreadable B:P,..] [--json] DUMP\n"
 	"\n"
 	"Plans the update of a settled pair of bad-block tables that marks blocks as\n"
 	"gone bad in use. A block that is not good already keeps its entry. A pair that\n"
@@ -36,9 +41,10 @@ static const char update_help[] =
 	APPLY_HELP;
 
 static const char recover_help[] =
-	"usage: ream recover [--apply OUT [--status-out FILE]] [--pages DIR] [--force]\n"
-	"                    [--blocks N] [--region-blocks R] [--pages-per-block K]\n"
-	"                    [--status FILE] [--unreadable B:P,..] [--json] DUMP\n"
+	"usage: ream recover [--failed S,S,..] [--apply OUT [--status-out FILE]]\n"
+	"                    [--pages DIR] [--force] [--blocks N] [--region-blocks R]\n"
+	"                    [--pages-per-block K] [--status FILE] [--unreadable B:P,..]\n"
+	"                    [--json] DUMP\n"
 	"\n"
 	"Plans the recovery of a pair of bad-block tables, as after a power cut. Where\n"
 	"there is nothing to recover from, or to, it is refused, with exit status 1.\n"
@@ -50,11 +56,13 @@ struct job {
 	const char *command;
 	struct shape shape;
 	struct applying applying;
-	struct texts mark_late;
+	struct texts mark_late, failed_lists;
 	bool json;
+	struct failed failed;
 	struct dump dump;
 	struct notes warnings;
 	struct plan plan;
+	struct failures failures;
 	unsigned refusal;
 	struct settled table;	/* before an update */
 	struct application application;
@@ -68,6 +76,7 @@ static enum parsed take(struct job *job, struct syntax *syntax, int argc, char *
 
 	job->command = syntax->command;
 	dump_options(syntax, &job->shape);
+	args_add(syntax, (struct argument){ .name = "failed", .texts = &job->failed_lists, .empty = true });
 	args_add(syntax, (struct argument){ .name = "apply", .text = &job->applying.out });
 	args_add(syntax, (struct argument){ .name = "status-out", .text = &job->applying.status_out });
 	args_add(syntax, (struct argument){ .name = "pages", .text = &job->applying.pages });
@@ -80,23 +89,38 @@ static enum parsed take(struct job *job, struct syntax *syntax, int argc, char *
 		complain("%s: --status-out: expected --apply beside it", job->command);
 		return PARSED_WRONG;
 	}
-	return dump_read(&job->dump, file, &job->shape) ? PARSED : PARSED_WRONG;
+	return failed_take(&job->failed_lists, &job->failed) && dump_read(&job->dump, file, &job->shape)
+		       ? PARSED : PARSED_WRONG;
 }
 
 /* ---- what is told */
 
-/* What stands before the plan, or before its refusal. */
+/* What stands before the plan. */
 static void print_before(const struct job *job)
 {
 	dump_print(&job->dump);
-	if (job->refusal != REAM_OK)
-		print_refusal(job->command, job->refusal);
-	else if (job->plan.updates)
+	if (job->plan.updates)
 		marks_print(job->table.bitmap, job->plan.wanted, job->dump.region.n);
 	else
 		differ_print(&job->dump.region);
+	failed_print(&job->failures);
+}
+
+/* The refusal, and what to do then. */
+static void print_refused(const struct job *job)
+{
+	dump_print(&job->dump);
+	failed_print(&job->failures);
+	print_refusal(job->command, job->refusal);
+	failed_advise(&job->failures);
+	if (job->failures.count > 0)
+		return;
+	if (job->refusal == REAM_NO_TARGET)
+		printf("  every block but the good copy's is readable as bad\n");
 	if (job->plan.updates && job->refusal == REAM_NOT_SETTLED)
 		printf("  a recovery comes first (ream recover)\n");
+	if (job->failed.count > 0)
+		printf("  --failed goes with the dump that the first plan was made from, as it was then\n");
 }
 
 /* What was written, and the pair that is there then. */
@@ -130,6 +154,7 @@ static void write_job(const struct job *job)
 	json_text(&json, "command", job->command);
 	dump_write(&json, &job->dump);
 	notes_write(&json, "warnings", &job->warnings);
+	failed_write(&json, &job->failures);
 	write_refusal(&json, job->refusal);
 	if (job->refusal == REAM_OK) {
 		if (job->plan.updates)
@@ -161,6 +186,17 @@ static bool carry_out(struct job *job)
 	return true;
 }
 
+/* Tells that the library refuses. */
+static enum exit_status tell_refused(const struct job *job)
+{
+	notes_warn(&job->warnings);
+	if (job->json)
+		write_job(job);
+	else
+		print_refused(job);
+	return EXIT_REFUSED;
+}
+
 /* Makes the plan, to a wanted bitmap or of a recovery, tells it and carries it out. */
 static enum exit_status plan_and_tell(struct job *job, const uint8_t *wanted)
 {
@@ -168,14 +204,10 @@ static enum exit_status plan_and_tell(struct job *job, const uint8_t *wanted)
 
 	geometry_doubt(&job->dump, &job->warnings);
 	job->refusal = plan_make(&job->plan, &job->dump.region, wanted);
-	if (job->refusal != REAM_OK) {
-		notes_warn(&job->warnings);
-		if (job->json)
-			write_job(job);
-		else
-			print_before(job);
-		return EXIT_REFUSED;
-	}
+	if (job->refusal == REAM_OK)
+		job->refusal = failed_plan(&job->failed, &job->plan, &job->failures);
+	if (job->refusal != REAM_OK)
+		return tell_refused(job);
 	table_read(&job->dump.region, &job->table);
 	if (!apply_begin(&job->application, &job->applying, &job->dump, &job->plan))
 		return EXIT_WRONG;

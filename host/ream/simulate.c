@@ -1,4 +1,4 @@
-/* ream simulate: a story with power cuts, as text, and as a picture or a dump if that is asked for. */
+/* ream simulate: a story with power cuts and failed steps, as text, and as a picture or a dump if that is asked for. */
 #include <inttypes.h>
 #include <stdio.h>
 #include <stdlib.h>
@@ -14,8 +14,8 @@
 
 static const char help[] =
 	"usage: ream simulate [--blocks N] [--region-blocks R] [--seed S] [--events E]\n"
-	"                     [--stop] [--svg FILE] [--dump OUT] [--status-out FILE]\n"
-	"                     [--pages-per-block K] [--force]\n"
+	"                     [--failures] [--stop] [--svg FILE] [--dump OUT]\n"
+	"                     [--status-out FILE] [--pages-per-block K] [--force]\n"
 	"\n"
 	"Runs a history of updates, power cuts and recoveries on a chip in memory and\n"
 	"prints what its last blocks, the region, hold after each event, and after each\n"
@@ -28,7 +28,9 @@ static const char help[] =
 	"                        4 if not told\n"
 	"  --seed S              1 if not told\n"
 	"  --events E            from 1 to 100000, 20 if not told; then what is begun\n"
-	"                        goes on to its end, without a cut\n"
+	"                        goes on to its end, without a cut or a failed step\n"
+	"  --failures            steps fail too while power is on; then it is planned\n"
+	"                        anew, and the block that failed is retired\n"
 	"  --stop                stops after these events, with the chip as it is\n"
 	"  --svg FILE            draws the history, of at most 1000 events\n"
 	"  --dump OUT            writes the region as it is at the end, as ream pair\n"
@@ -42,7 +44,7 @@ enum { MOST_EVENTS = 100000, MOST_DRAWN = 1000 };
 struct order {
 	struct chip chip;
 	uint64_t seed, events;
-	bool stop, force;
+	bool failures, stop, force;
 	const char *svg, *dump, *status_out;
 };
 
@@ -56,6 +58,7 @@ static enum parsed take(struct order *order, int argc, char **argv)
 	args_add(&syntax, (struct argument){ .name = "seed", .number = &order->seed, .most = UINT64_MAX });
 	args_add(&syntax, (struct argument){ .name = "events", .number = &order->events, .least = 1,
 					   .most = MOST_EVENTS });
+	args_add(&syntax, (struct argument){ .name = "failures", .flag = &order->failures });
 	args_add(&syntax, (struct argument){ .name = "stop", .flag = &order->stop });
 	args_add(&syntax, (struct argument){ .name = "svg", .text = &order->svg });
 	args_add(&syntax, (struct argument){ .name = "dump", .text = &order->dump });
@@ -75,8 +78,11 @@ static enum parsed take(struct order *order, int argc, char **argv)
 /* Runs the story and tells it. */
 static bool run(const struct order *order, struct story *story, struct row *row)
 {
-	const bool held = story_run(story, row, order->chip.blocks, (unsigned)order->chip.region_blocks,
-				    order->seed, order->events, order->stop);
+	const struct setting setting = {
+		.n = order->chip.blocks, .size = (unsigned)order->chip.region_blocks, .seed = order->seed,
+		.events = order->events, .failures = order->failures, .stop = order->stop,
+	};
+	const bool held = story_run(story, &setting, row);
 
 	timeline_print(story);
 	if (held)

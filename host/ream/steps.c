@@ -15,16 +15,16 @@ static uint64_t address(const struct ream_step *step, uint64_t pages_per_block)
 static void print_step(const struct plan *plan, unsigned i, uint64_t pages_per_block, bool names)
 {
 	const struct ream_step step = plan_step(plan, i);
-	const uint64_t at = address(&step, pages_per_block);
 	char name[PAGE_NAME_LEN];
 
-	if (step.kind == REAM_ERASE) {
-		printf("  %4u  erase  %5u     -  0x%09" PRIx64 "\n", i, step.block, at);
-		return;
-	}
-	printf("  %4u  write  %5u  %4u  0x%09" PRIx64, i, step.block, step.page, at);
+	printf("  %4u  %-5s  %5u  ", i, plan_does(&step), step.block);
+	if (step.kind == REAM_ERASE)
+		printf("   -");
+	else
+		printf("%4u", step.page);
+	printf("  0x%09" PRIx64, address(&step, pages_per_block));
 	pages_name(plan, i, name);
-	if (names)
+	if (names && pages_has(plan, i))
 		printf("  %s", name);
 	putchar('\n');
 }
@@ -39,6 +39,8 @@ void steps_print(const char *command, const struct plan *plan, uint64_t pages_pe
 	printf("  step  does   block  page  address%s\n", names ? "      its page's file" : "");
 	for (unsigned i = 0; i < plan->count; i++)
 		print_step(plan, i, pages_per_block, names);
+	if (plan_step(plan, 0).kind == REAM_ZERO)
+		printf("  a zero step writes 00 to all 64 OOB bytes of its page, and no data\n");
 }
 
 void steps_write(struct json *json, const struct plan *plan, uint64_t pages_per_block, bool names)
@@ -51,13 +53,13 @@ void steps_write(struct json *json, const struct plan *plan, uint64_t pages_per_
 
 		json_object(json, NULL);
 		json_number(json, "step", i);
-		json_text(json, "does", step.kind == REAM_ERASE ? "erase" : "write");
+		json_text(json, "does", plan_does(&step));
 		json_number(json, "block", step.block);
-		if (step.kind == REAM_WRITE)
+		if (step.kind != REAM_ERASE)
 			json_number(json, "page", step.page);
 		json_number(json, "address", address(&step, pages_per_block));
 		pages_name(plan, i, name);
-		if (step.kind == REAM_WRITE && names)
+		if (names && pages_has(plan, i))
 			json_text(json, "file", name);
 		json_end(json);
 	}

@@ -18,6 +18,8 @@ static void step_words(const struct story *story, const struct row *row, const c
 
 	if (row->page == ALL_PAGES)
 		snprintf(words, EVENT_LEN, "%sstep %u: erase %" PRIu64, before, row->step, block);
+	else if (row->zeroes)
+		snprintf(words, EVENT_LEN, "%sstep %u: zero %" PRIu64, before, row->step, block);
 	else
 		snprintf(words, EVENT_LEN, "%sstep %u: write %" PRIu64 " page %u", before, row->step, block,
 			 row->page);
@@ -44,31 +46,46 @@ void story_event(const struct story *story, const struct row *row, char words[EV
 		else
 			step_words(story, row, "CUT in ", words);
 		break;
+	case EVENT_FAILED:
+		step_words(story, row, "FAILED ", words);
+		break;
 	}
 }
 
-const char *story_result(enum result result)
+void story_result(const struct row *row, char words[RESULT_LEN])
 {
-	static const char *const words[] = {
-		[RESULT_UPDATED] = "updated",
-		[RESULT_OLD_KEPT] = "OLD table kept",
-		[RESULT_NEW_KEPT] = "NEW table kept",
-		[RESULT_ONE_KEPT] = "table kept",
+	static const char *const results[] = {
+		[RESULT_NONE] = "", [RESULT_UPDATED] = "updated", [RESULT_OLD_KEPT] = "OLD table kept",
+		[RESULT_NEW_KEPT] = "NEW table kept", [RESULT_ONE_KEPT] = "table kept",
+		[RESULT_PLANNED_ANEW] = "planned anew", [RESULT_DROPPED] = "plan dropped",
 	};
+	const char *result = results[row->result];
 
-	return words[result];
+	if (row->result == RESULT_PLANNED_ANEW)
+		snprintf(words, RESULT_LEN, "%s, %u steps", result, row->steps);
+	else if (row->result == RESULT_DROPPED)
+		snprintf(words, RESULT_LEN, "%s, refusal %u", result, row->refusal);
+	else
+		snprintf(words, RESULT_LEN, "%s, v%u", result, row->version);
 }
 
-const char *story_reason(enum result result)
+void story_reason(const struct story *story, const struct row *row, char words[RESULT_LEN])
 {
-	static const char *const words[] = {
-		[RESULT_UPDATED] = "no cut: both copies are new",
-		[RESULT_OLD_KEPT] = "the cut update's new primary was not complete",
-		[RESULT_NEW_KEPT] = "the cut update's new primary was complete",
+	static const char *const reasons[] = {
+		[RESULT_NONE] = "", [RESULT_UPDATED] = "no cut: both copies are new",
+		[RESULT_OLD_KEPT] = "the update's new primary was not complete",
+		[RESULT_NEW_KEPT] = "the update's new primary was complete",
 		[RESULT_ONE_KEPT] = "no update was under way",
+		[RESULT_PLANNED_ANEW] = "will be retired, its copy goes to",
 	};
 
-	return words[result];
+	if (row->result == RESULT_PLANNED_ANEW)
+		snprintf(words, RESULT_LEN, "%" PRIu64 " %s %u", region_first(&story->region) + row->block,
+			 reasons[row->result], row->target);
+	else if (row->result == RESULT_DROPPED)
+		snprintf(words, RESULT_LEN, "%s", ream_refusal_text(row->refusal));
+	else
+		snprintf(words, RESULT_LEN, "%s", reasons[row->result]);
 }
 
 /* ---- rows */
@@ -122,14 +139,10 @@ static void take_in_hand(struct story *story)
 {
 	story->in_hand = true;
 	story->next = 0;
-	for (unsigned i = 0; i < story->plan.count; i++) {
-		const struct ream_step step = plan_step(&story->plan, i);
-
-		checker_told(&story->checker, &story->region, step.block, step.page);
-	}
+	checker_plan(&story->checker, &story->region, story->plan.version, story->plan.steps, story->plan.count);
 }
 
-/* The plan in hand is over, by its end or by a cut. */
+/* The plan in hand is over: by its end, by a cut, or because it is refused to plan anew. */
 static void let_go(struct story *story)
 {
 	checker_closed(&story->checker, &story->region);
@@ -170,15 +183,29 @@ static void plan_recovery(struct story *story)
 
 /* ---- steps and cuts */
 
-/* The step that comes next, with its row begun. */
+/* The step that comes next, with its row begun, and judged. */
 static struct ream_step begin_step(struct story *story, enum event event)
 {
 	const struct ream_step step = plan_step(&story->plan, story->next);
+	const unsigned block = plan_block(&story->plan, &step);
 
-	begin_row(story, (struct row){ .event = event, .block = plan_block(&story->plan, &step),
+	begin_row(story, (struct row){ .event = event, .block = block,
 				       .page = step.kind == REAM_ERASE ? ALL_PAGES : step.page,
-				       .step = story->next });
+				       .step = story->next, .zeroes = step.kind == REAM_ZERO });
+	if (step.kind == REAM_ERASE)
+		checker_erase(&story->checker, &story->region, block);
+	else if (step.kind == REAM_ZERO)
+		checker_zero(&story->checker, block);
+	else
+		checker_write(&story->checker, &story->region, block, step.page);
 	return step;
+}
+
+/* The page that it writes, judged. */
+static void step_page(struct story *story, uint8_t page[PAGE_BYTES])
+{
+	plan_page(&story->plan, story->next, page);
+	checker_page(&story->checker, &story->region, story->next, page);
 }
 
 /* The plan in hand ran to its end. */
@@ -202,32 +229,63 @@ static void do_step(struct story *story)
 	uint8_t page[PAGE_BYTES];
 
 	if (step.kind == REAM_ERASE) {
-		checker_erase(&story->checker, &story->region, block);
 		region_erase(&story->region, block);
+	} else if (step.kind == REAM_ZERO) {
+		rig_zero(&story->state, &story->region, block);
 	} else {
-		plan_page(&story->plan, story->next, page);
+		step_page(story, page);
 		rig_write(&story->state, &story->region, block, step.page, page);
 	}
 	story->next++;
 	end_row(story, story->next == story->plan.count ? finish(story) : RESULT_NONE);
 }
 
-static void cut_in_step(struct story *story)
+/* The step that comes next is cut or fails: its row is begun, and its block is left as that leaves it. */
+static void break_step(struct story *story, enum event event)
 {
-	const struct ream_step step = begin_step(story, EVENT_CUT);
+	const struct ream_step step = begin_step(story, event);
 	const unsigned block = plan_block(&story->plan, &step);
 	enum left left[MOST_PAGES];
 	uint8_t page[PAGE_BYTES];
 
 	if (step.kind == REAM_ERASE) {
-		checker_erase(&story->checker, &story->region, block);
 		rig_cut_erase(&story->state, &story->region, block, left);
+	} else if (step.kind == REAM_ZERO) {
+		rig_cut_zero(&story->state, &story->region, block);
 	} else {
-		plan_page(&story->plan, story->next, page);
+		step_page(story, page);
 		rig_cut_write(&story->state, &story->region, block, step.page, page);
 	}
+}
+
+static void cut_in_step(struct story *story)
+{
+	break_step(story, EVENT_CUT);
 	let_go(story);
 	end_row(story, RESULT_NONE);
+}
+
+/* Plans anew, as the step that comes next has failed, or drops the plan. Gives what came of it. */
+static enum result plan_around(struct story *story)
+{
+	struct row *row = &story->row[story->rows - 1];
+
+	row->refusal = plan_anew(&story->plan, (uint8_t)story->next);
+	checker_failed(&story->checker, &story->region, story->next, row->refusal);
+	if (row->refusal != REAM_OK) {
+		let_go(story);
+		return RESULT_DROPPED;
+	}
+	take_in_hand(story);
+	row->steps = story->plan.count;
+	row->target = plan_step(&story->plan, 1).block;
+	return RESULT_PLANNED_ANEW;
+}
+
+static void fail_in_step(struct story *story)
+{
+	break_step(story, EVENT_FAILED);
+	end_row(story, plan_around(story));
 }
 
 static void cut_before_step(struct story *story)
@@ -239,30 +297,32 @@ static void cut_before_step(struct story *story)
 
 /* ---- the whole story */
 
-/* The next event within a plan. About half of all plans are cut. */
-static void next_in_plan(struct story *story, bool cuts)
+/* The next event within a plan. About half of all plans are cut, and in one of five a step fails. */
+static void next_in_plan(struct story *story, bool mishaps)
 {
 	const uint64_t chance = draw_below(&story->state, 4 * (uint64_t)story->plan.count);
 
-	if (cuts && chance < 2)
+	if (mishaps && chance < 2)
 		cut_in_step(story);
-	else if (cuts && chance == 2)
+	else if (mishaps && chance == 2)
 		cut_before_step(story);
+	else if (mishaps && chance == 3 && story->setting.failures)
+		fail_in_step(story);
 	else
 		do_step(story);
 }
 
-/* The next event. False where there is none. */
-static bool next_event(struct story *story, bool cuts, bool updates)
+/* The next event: one of all that there are, or on the way to the end of what is begun. False where there is none. */
+static bool next_event(struct story *story, bool to_end)
 {
 	struct settled table;
 
 	if (story->in_hand) {
-		next_in_plan(story, cuts);
+		next_in_plan(story, !to_end);
 		return true;
 	}
 	if (table_read(&story->region, &table) == REAM_OK)
-		return updates && plan_update(story, &table);
+		return !to_end && plan_update(story, &table);
 	plan_recovery(story);
 	return true;
 }
@@ -291,33 +351,33 @@ static bool can_start(struct story *story)
 	return good >= n / 2;
 }
 
-static void begin(struct story *story, struct row *row, size_t room, uint64_t n, unsigned size, uint64_t seed)
+static void begin(struct story *story, const struct setting *setting, struct row *row)
 {
 	struct start start;
 
+	story->setting = *setting;
 	story->row = row;
 	story->rows = 0;
-	story->room = room;
+	story->room = (size_t)setting->events + STORY_MORE;
 	story->in_hand = story->all_marked = false;
 	story->broken = NULL;
-	story->seed = story->state = seed;
+	story->state = setting->seed;
 	do
-		rig_start_on(&story->state, n, size, &start, &story->region);
+		rig_start_on(&story->state, setting->n, setting->size, &start, &story->region);
 	while (!can_start(story));
 	clear_behind(&story->region);
 	begin_row(story, (struct row){ .event = EVENT_START, .block = NOWHERE });
 	end_row(story, RESULT_NONE);
 }
 
-bool story_run(struct story *story, struct row *row, uint64_t n, unsigned size, uint64_t seed, uint64_t events,
-	       bool stop)
+bool story_run(struct story *story, const struct setting *setting, struct row *row)
 {
-	struct progress progress = progress_begin("simulating", events, NULL);
+	struct progress progress = progress_begin("simulating", setting->events, NULL);
 
-	begin(story, row, (size_t)events + STORY_MORE, n, size, seed);
-	while (!story->broken && story->rows <= events && next_event(story, true, true))
+	begin(story, setting, row);
+	while (!story->broken && story->rows <= setting->events && next_event(story, false))
 		progress_at(&progress, story->rows);
-	while (!story->broken && !stop && next_event(story, false, false))
+	while (!story->broken && !setting->stop && next_event(story, true))
 		continue;
 	progress_end(&progress);
 	return !story->broken;

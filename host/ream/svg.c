@@ -13,7 +13,7 @@
 /* Lengths, in pixels. */
 enum {
 	MARGIN = 24,
-	NUMBERS = 64,		/* the column of the numbers, of up to four digits, with the bolt of a cut */
+	NUMBERS = 64,		/* the column of the numbers, of up to four digits, with a bolt or a cross */
 	TEXTS = 262,
 	BLOCK_GAP = 22,
 	NARROW_CELL = 50,	/* of several pages a block */
@@ -27,7 +27,7 @@ enum {
 	SUBTITLE = 58,
 	LEGEND = 78,
 	LEGEND_ROW = 30,
-	HEADS = 184,		/* the heads of the columns, and their height */
+	HEADS = 214,		/* the heads of the columns, and their height */
 	HEAD = 46,
 	ROWS = HEADS + HEAD,
 	HEAD_TEXT = 20,		/* their lines, from their top */
@@ -76,16 +76,19 @@ static const char style[] =
 	".middle { text-anchor: middle }\n"
 	".cell { text-anchor: middle; font-size: 12px; font-weight: bold }\n"
 	".on-dark { fill: #fff }\n"
-	".cut { fill: #b00020; font-weight: bold }\n"
+	".cut { fill: #b00020; font-weight: bold } .failed { fill: #a04400; font-weight: bold }\n"
 	".primary { fill: #0072b2 } .mirror { fill: #e69f00 } .erased { fill: #fff } .unreadable { fill: #222 }\n"
-	".bad { fill: #cc79a7 } .other { fill: url(#hatch) }\n"
+	".bad { fill: #cc79a7 } .retired { fill: url(#crossed) } .other { fill: url(#hatch) }\n"
 	".page { stroke: #777; stroke-width: 1 } .under { fill: none; stroke: #fff; stroke-width: 6 }\n"
 	".touched { fill: none; stroke: #111; stroke-width: 2.5 }\n"
 	".settled { fill: #e3f4ec; stroke: #009e73; stroke-width: 1.5 }\n"
 	"</style>\n"
 	"<defs><pattern id=\"hatch\" width=\"6\" height=\"6\" patternUnits=\"userSpaceOnUse\" "
 	"patternTransform=\"rotate(45)\"><rect width=\"6\" height=\"6\" fill=\"#e4e4e4\"/>"
-	"<rect width=\"1.5\" height=\"6\" fill=\"#bbb\"/></pattern></defs>\n";
+	"<rect width=\"1.5\" height=\"6\" fill=\"#bbb\"/></pattern>\n"
+	"<pattern id=\"crossed\" width=\"8\" height=\"8\" patternUnits=\"userSpaceOnUse\" "
+	"patternTransform=\"rotate(45)\"><rect width=\"8\" height=\"8\" fill=\"#f9ecf3\"/>"
+	"<path d=\"M0 0 H8 M0 0 V8\" stroke=\"#d99bbf\" stroke-width=\"1.6\"/></pattern></defs>\n";
 
 static void draw_text(FILE *stream, unsigned x, unsigned y, const char *kind, const char *text)
 {
@@ -114,11 +117,21 @@ static void draw_bolt(FILE *stream, unsigned x, unsigned y)
 		x, y);
 }
 
+/* A cross, 14 wide and 20 high. */
+static void draw_cross(FILE *stream, unsigned x, unsigned y)
+{
+	fprintf(stream,
+		"<path transform=\"translate(%u %u)\" d=\"M2 5 L12 15 M12 5 L2 15\" stroke=\"#d55e00\" "
+		"stroke-width=\"3.5\"/>\n",
+		x, y);
+}
+
 static const char *page_kind(enum page_look page)
 {
 	static const char *const kinds[PAGE_LOOKS] = {
 		[PAGE_PRIMARY] = "primary", [PAGE_MIRROR] = "mirror", [PAGE_ERASED] = "erased",
-		[PAGE_UNREADABLE] = "unreadable", [PAGE_BAD] = "bad", [PAGE_OTHER] = "other",
+		[PAGE_UNREADABLE] = "unreadable", [PAGE_BAD] = "bad", [PAGE_RETIRED] = "retired",
+		[PAGE_OTHER] = "other",
 	};
 
 	return kinds[page];
@@ -167,6 +180,12 @@ static void draw_table(FILE *stream, unsigned x, unsigned y, bool settled, uint8
 
 /* ---- the head */
 
+static const char *title(const struct story *story)
+{
+	return story->setting.failures ? "A bad-block table through power cuts and failed steps"
+				       : "A bad-block table through power cuts";
+}
+
 /* One line of the legend: a cell and its meaning. */
 static void draw_meaning(FILE *stream, unsigned x, unsigned y, enum page_look page, bool wide,
 			 const char *meaning)
@@ -183,22 +202,25 @@ static void draw_legend(FILE *stream, bool wide)
 	static const char *const meanings[PAGE_LOOKS] = {
 		[PAGE_PRIMARY] = "page of a primary, version 7", [PAGE_MIRROR] = "page of a mirror, version 7",
 		[PAGE_ERASED] = "erased page", [PAGE_UNREADABLE] = "page cannot be read",
-		[PAGE_BAD] = "block marked bad, never erased", [PAGE_OTHER] = "page with other bytes",
+		[PAGE_BAD] = "block marked bad, never erased", [PAGE_RETIRED] = "block retired by a zero step",
+		[PAGE_OTHER] = "page with other bytes",
 	};
-	const unsigned column = wide ? 320 : 256, last = MARGIN + 3 * column, third = LEGEND + 2 * LEGEND_ROW;
+	const unsigned column = wide ? 320 : 256, last = MARGIN + 3 * column, fourth = LEGEND + 3 * LEGEND_ROW;
 
 	for (unsigned page = 0; page < PAGE_LOOKS; page++)
 		draw_meaning(stream, MARGIN + page % 3 * column, LEGEND + page / 3 * LEGEND_ROW,
 			     (enum page_look)page, wide, meanings[page]);
 	draw_bolt(stream, last + 4, LEGEND + 1);
 	draw_text(stream, last + 32, LEGEND + 16, "small", "power is cut: a red line across");
-	draw_frame(stream, last, LEGEND + LEGEND_ROW + 2, 22, 18);
-	draw_text(stream, last + 32, LEGEND + LEGEND_ROW + 16, "small", "the event is on these pages");
-	draw_table(stream, MARGIN, third, true, 7);
-	draw_text(stream, MARGIN + VERSION_WIDTH + 8, third + 16, "small",
+	draw_cross(stream, last + 4, LEGEND + LEGEND_ROW + 1);
+	draw_text(stream, last + 32, LEGEND + LEGEND_ROW + 16, "small", "a step fails, power stays on");
+	draw_frame(stream, last, LEGEND + 2 * LEGEND_ROW + 2, 22, 18);
+	draw_text(stream, last + 32, LEGEND + 2 * LEGEND_ROW + 16, "small", "the event is on these pages");
+	draw_table(stream, MARGIN, fourth, true, 7);
+	draw_text(stream, MARGIN + VERSION_WIDTH + 8, fourth + 16, "small",
 		  "settled: one good primary and one good mirror, alike; the table can be read, here version 7");
-	draw_table(stream, last - 140, third, false, 0);
-	draw_text(stream, last - 140 + 76, third + 16, "small",
+	draw_table(stream, last - 140, fourth, false, 0);
+	draw_text(stream, last - 140 + 76, fourth + 16, "small",
 		  "otherwise: the plan goes on, or after a cut a recovery is planned");
 }
 
@@ -231,9 +253,9 @@ static void draw_head(FILE *stream, const struct story *story, const struct layo
 	const struct region *region = &story->region;
 
 	fprintf(stream,
-		"<text x=\"%d\" y=\"%d\" class=\"title\">A bad-block table through power cuts: N = %" PRIu64
+		"<text x=\"%d\" y=\"%d\" class=\"title\">%s: N = %" PRIu64
 		" blocks, P = %u page%s a copy, seed %" PRIu64 "</text>\n",
-		MARGIN, TITLE, region->n, region->pages, plural(region->pages), story->seed);
+		MARGIN, TITLE, title(story), region->n, region->pages, plural(region->pages), story->setting.seed);
 	fprintf(stream,
 		"<text x=\"%d\" y=\"%d\" class=\"small\">The table is kept twice, as primary and mirror, in two "
 		"of the chip's last %s blocks. Each row shows these blocks as an event left them.</text>\n",
@@ -271,31 +293,43 @@ static const char *event_kind(enum event event)
 {
 	if (event == EVENT_CUT)
 		return "cut";
+	if (event == EVENT_FAILED)
+		return "failed";
 	return is_plan(event) ? "head" : "step";
 }
 
-/* The background of a row, and across the lower end of a cut's the red line. */
-static void draw_ground(FILE *stream, const struct row *row, const struct layout *layout, unsigned y)
+/* The background of a row, in a colour. */
+static void draw_ground(FILE *stream, const struct layout *layout, unsigned y, const char *colour)
 {
-	const unsigned width = layout->width - 2 * MARGIN;
-
-	if (is_plan(row->event))
-		fprintf(stream, "<rect x=\"%d\" y=\"%u\" width=\"%u\" height=\"%d\" fill=\"#eef2f6\"/>\n",
-			MARGIN, y, width, ROW);
-	if (row->event != EVENT_CUT)
-		return;
-	fprintf(stream, "<rect x=\"%d\" y=\"%u\" width=\"%u\" height=\"%d\" fill=\"#fde3e3\"/>\n", MARGIN, y,
-		width, ROW);
-	fprintf(stream, "<path d=\"M%d %u H%u\" stroke=\"#b00020\" stroke-width=\"3\"/>\n", MARGIN, y + ROW,
-		MARGIN + width);
-	draw_bolt(stream, MARGIN + 2, y + 6);
+	fprintf(stream, "<rect x=\"%d\" y=\"%u\" width=\"%u\" height=\"%d\" fill=\"%s\"/>\n", MARGIN, y,
+		layout->width - 2 * MARGIN, ROW, colour);
 }
 
-static void draw_result(FILE *stream, const struct row *row, const struct layout *layout, unsigned y)
+/* What shows the kind of an event: a background, and of a cut the bolt and the red line across the lower end. */
+static void draw_event(FILE *stream, enum event event, const struct layout *layout, unsigned y)
 {
-	fprintf(stream, "<text x=\"%u\" y=\"%u\" class=\"head\">%s, v%u</text>\n", layout->results, y + 14,
-		story_result(row->result), row->version);
-	draw_text(stream, layout->results, y + 27, "small", story_reason(row->result));
+	if (is_plan(event)) {
+		draw_ground(stream, layout, y, "#eef2f6");
+	} else if (event == EVENT_FAILED) {
+		draw_ground(stream, layout, y, "#fdf0e0");
+		draw_cross(stream, MARGIN + 2, y + 6);
+	} else if (event == EVENT_CUT) {
+		draw_ground(stream, layout, y, "#fde3e3");
+		fprintf(stream, "<path d=\"M%d %u H%u\" stroke=\"#b00020\" stroke-width=\"3\"/>\n", MARGIN, y + ROW,
+			layout->width - MARGIN);
+		draw_bolt(stream, MARGIN + 2, y + 6);
+	}
+}
+
+static void draw_result(FILE *stream, const struct story *story, const struct row *row,
+			const struct layout *layout, unsigned y)
+{
+	char words[RESULT_LEN];
+
+	story_result(row, words);
+	draw_text(stream, layout->results, y + 14, "head", words);
+	story_reason(story, row, words);
+	draw_text(stream, layout->results, y + 27, "small", words);
 }
 
 static void draw_row(FILE *stream, const struct story *story, size_t number, const struct layout *layout,
@@ -304,7 +338,7 @@ static void draw_row(FILE *stream, const struct story *story, size_t number, con
 	const struct row *row = &story->row[number];
 	char label[LOOK_LEN], words[EVENT_LEN];
 
-	draw_ground(stream, row, layout, y);
+	draw_event(stream, row->event, layout, y);
 	snprintf(label, sizeof(label), "%zu", number);
 	story_event(story, row, words);
 	draw_text(stream, MARGIN + NUMBERS - 8, y + 21, "number", label);
@@ -313,7 +347,7 @@ static void draw_row(FILE *stream, const struct story *story, size_t number, con
 		draw_pages(stream, row, block, layout, y + 5);
 	draw_table(stream, layout->table, y + 5, row->settled, row->version);
 	if (row->result != RESULT_NONE)
-		draw_result(stream, row, layout, y);
+		draw_result(stream, story, row, layout, y);
 }
 
 bool svg_fill(FILE *stream, const void *from)
@@ -324,8 +358,8 @@ bool svg_fill(FILE *stream, const void *from)
 	fprintf(stream,
 		"<?xml version=\"1.0\" encoding=\"UTF-8\"?>\n"
 		"<svg xmlns=\"http://www.w3.org/2000/svg\" width=\"%u\" height=\"%u\" viewBox=\"0 0 %u %u\">\n"
-		"<title>A bad-block table through power cuts</title>\n",
-		layout.width, layout.height, layout.width, layout.height);
+		"<title>%s</title>\n",
+		layout.width, layout.height, layout.width, layout.height, title(story));
 	fputs(style, stream);
 	fprintf(stream, "<rect width=\"%u\" height=\"%u\" fill=\"#fff\"/>\n", layout.width, layout.height);
 	draw_head(stream, story, &layout);

@@ -107,6 +107,10 @@ copy() { # SIGNATURE VERSION: a page of a table of good blocks; the version in o
 }
 primary() { copy Bbt0 "$1"; }
 mirror() { copy 1tbB "$1"; }
+zeroed() { # a page from the standard input, with its OOB all 0
+	dd bs=1 count=2048 2>/dev/null
+	dd if=/dev/zero bs=64 count=1 2>/dev/null
+}
 poke() { # FILE OFFSET BYTES: in octal escapes
 	printf "$3" | dd of="$1" bs=1 seek="$2" conv=notrunc 2>/dev/null
 }
@@ -133,7 +137,7 @@ says "dump: the last four blocks; a copy of the table fills 1 page"
 says "region: the last four blocks, 12-15 (assumed)"
 says "pages: all 4 that count read well (assumed)"
 says "block 13: erased"
-says "block 14: bad"
+says "block 14: bad (marked)"
 says "entries: 16 good, 0 reserved, 0 late, 0 factory"
 sed 1,2d out >four_blocks
 expect 0 "dump: the whole chip" pair --pages-per-block 1 whole
@@ -153,7 +157,7 @@ expect 1 "pair: refused, 10: the pair of tables is not settled" pair $chip newer
 says "recovery: would erase block 15 and write the mirror there"
 says "  from the primary, version 6; 2 steps"
 expect 1 "pair: refused, 10" pair $chip no_target
-says "recovery: refused, 11: there is no block to recover to"
+says "recovery: refused, 11: there is no block to write a copy to"
 expect 1 "pair: refused, 10" pair $chip differing
 says "recovery: would merge both tables (AND) and write both copies"
 says "  version 6; 4 steps"
@@ -171,12 +175,39 @@ says "a copy of the table fills 2 pages"
 says "block 8192: partly PP"
 says "block 8193: partly M-"
 says "block 8194: partly PM"
-says "block 8195: bad"
+says "block 8195: bad (marked)"
 printf '\000\001\001\001\000\000\001\000' >status_partly
 expect 1 "pair: refused, 7" pair --blocks 8196 --pages-per-block 2 --status status_partly partly
 says "block 8192: partly Px"
 says "block 8193: unreadable"
 says "block 8195: partly xM"
+
+# a retired block: 64 zero OOB bytes on its first page, which need not be readable
+{ primary 005; blank | zeroed; bad; mirror 005; } >retired
+for unreadable in "" "--unreadable 13:0"; do
+	expect 0 "pair: settled, version 5" pair $chip $unreadable retired
+	says "block 13: bad (retired)"
+	says "block 14: bad (marked)"
+done
+for at in 2048 2061 2079 2111; do
+	cp retired nearly
+	poke nearly $((2112 + at)) '\001'
+	expect 0 "pair: settled" pair $chip --unreadable 13:0 nearly
+	says "block 13: unreadable"
+	expect 0 "pair: settled" pair $chip nearly
+	[ $at -eq 2048 ] || says "block 13: bad (marked)"
+done
+# past the first page zeros mean nothing, and of a block of several pages the first page alone counts
+{ primary 005; primary 005; blank; blank | zeroed
+	primary 005 | zeroed; primary 005; mirror 005; mirror 005; } >retired_two
+expect 0 "pair: settled" pair --blocks 8196 --pages-per-block 2 --unreadable 8194:0 retired_two
+says "block 8193: other"
+says "block 8194: bad (retired)"
+# it is no target of a recovery
+{ primary 005; blank; blank | zeroed; blank | zeroed; } >no_mirror
+expect 1 "recovery: would erase block 13 and write the mirror there" pair $chip --unreadable 14:0,15:0 no_mirror
+poke no_mirror $((2 * 2112 + 2111)) '\001'
+expect 1 "recovery: would erase block 14 and write the mirror there" pair $chip --unreadable 14:0,15:0 no_mirror
 
 # ---- update
 
@@ -516,7 +547,7 @@ expect 1 "block 8195: partly M-" pair --blocks 8196 linux/dump.bin
 check "headers are brought back" sh -c 'cd linux && sh -e ./headers.sh'
 expect 1 "block 8195: mirror v5" pair --blocks 8196 linux/copy.bin
 check "a block is lent as bad" sh -c 'cd linux && sh -e ./given_up.sh'
-expect 1 "block 8195: bad" pair --blocks 8196 linux/copy.bin
+expect 1 "block 8195: bad (retired)" pair --blocks 8196 linux/copy.bin
 { primary 005; primary 005; blank; blank; blank; blank; mirror 005; blank; } >cut_or_linux
 expect 1 "pair: refused, 10" pair $two cut_or_linux
 notes "block 8195 is a copy with its header on page 0 only, as Linux writes it above 8,192 blocks, and as a power cut after"
@@ -580,7 +611,7 @@ notes "note: block 12 carries a signature and 0 in OOB 0, as Linux leaves a tabl
 notes_not "block 13 carries"
 dd if=/dev/zero of=given_up bs=1 seek=2048 count=64 conv=notrunc 2>/dev/null
 expect 0 "pair: settled, version 6, primary in block 13, mirror in block 15" pair $chip given_up
-says "block 12: bad"
+says "block 12: bad (retired)"
 
 # ---- recover
 
@@ -633,6 +664,242 @@ expect 2 "--unreadable 15: 15 has no page; expected BLOCK:PAGE with commas" pair
 expect 2 "--unreadable 15:0,: nothing stands after the last comma" pair $chip --unreadable 15:0, settled
 expect 2 "--unreadable 15:x: cannot take \"15:x\"" pair $chip --unreadable 15:x settled
 
+# ---- failed steps
+
+planned() { # the steps of the last run's plan, numbered from 0
+	awk '$1 == number + 0 && $2 ~ /^(erase|write|zero)$/ {
+		printf "%s%s %s %s", number++ ? ", " : "", $2, $3, $4 }' out
+}
+plan_is() { # STEPS
+	check "expected the plan: $1; found: $(planned)" [ "$(planned)" = "$1" ]
+}
+# A plan after failed steps, and the pair that it leaves when it is carried out on a copy.
+after_failed() { # FAILED STEPS PRIMARY MIRROR ARGUMENTS..
+	failed=$1
+	steps=$2
+	pair="primary in block $3, mirror in block $4"
+	shift 4
+	expect 0 "to version 6" "$@" --failed "$failed" --apply anew --status-out anew_status --force
+	plan_is "$steps"
+	says "pair: settled, version 6, $pair"
+	steps=$(echo "$failed" | tr ',' '\n' | grep -c .)
+	check "each failed step is told: $failed" [ "$(grep -c '^failed: step' out)" -eq "$steps" ]
+}
+# block 7 late already, so that data tells
+{ primary 005; blank; blank; mirror 005; } >free
+for copy_at in 0 6336; do
+	poke free $((copy_at + 1)) '\177'
+done
+update="update $chip --mark-late 9 free"
+primary="erase 14 -, write 14 0, erase 15 -, write 15 0"
+after_failed "" "erase 12 -, write 12 0, erase 15 -, write 15 0" 12 15 $update
+says_not "zero"
+cp out none_failed
+for option in "" "--failed=" "--failed= --failed="; do
+	expect 0 "to version 6" $update $option --apply anew --status-out anew_status --force
+	check "no failed step is an empty list" cmp none_failed out
+done
+after_failed 0 "zero 12 0, $primary" 14 15 $update
+says "failed: step 0, erase block 12; its copy goes to block 14"
+says "update: 5 steps, to version 6"
+says "     0  zero      12     0  0x000006000"
+says "  a zero step writes 00 to all 64 OOB bytes of its page, and no data"
+says "  block 9: good -> late"
+after_failed 1 "zero 12 0, $primary" 14 15 $update
+says "failed: step 1, write block 12 page 0; its copy goes to block 14"
+after_failed 2 "zero 15 0, erase 14 -, write 14 0" 12 14 $update
+says "failed: step 2, erase block 15; its copy goes to block 14"
+after_failed 3 "zero 15 0, erase 14 -, write 14 0" 12 14 $update
+# each number counts in the plan as it stood after the failures before it
+primary="erase 13 -, write 13 0, erase 15 -, write 15 0"
+after_failed 1,1 "zero 14 0, $primary" 13 15 $update
+says "failed: step 1, write block 12 page 0; its copy goes to block 14"
+says "failed: step 1, erase block 14; its copy goes to block 13"
+after_failed 0,2 "zero 14 0, $primary" 13 15 $update
+after_failed 1,3 "zero 15 0, erase 13 -, write 13 0" 14 13 $update
+after_failed 1,4 "zero 15 0, erase 13 -, write 13 0" 14 13 $update
+after_failed 3,2 "zero 14 0, erase 13 -, write 13 0" 12 13 $update
+says "failed: step 2, write block 14 page 0; its copy goes to block 13"
+cp out in_one_list
+expect 0 "to version 6" $update --failed 3 --failed= --failed=2 --apply anew --status-out anew_status --force
+check "failed steps add up, whether in a list or by several options" cmp in_one_list out
+
+# what is done on the copy: the steps before each failed one, zeros in the OOB alone, and nothing of a failed step
+as_updated() { # FILE..: pages as the update writes them, with blocks 7 and 9 late
+	for file; do
+		poke "$file" 1 '\177'
+		poke "$file" 2 '\367'
+	done
+}
+primary 005 >old_primary
+mirror 005 >old_mirror
+poke old_primary 1 '\177'
+poke old_mirror 1 '\177'
+primary 006 >new_primary
+mirror 006 >new_mirror
+as_updated new_primary new_mirror
+carried_out() { # FAILED PAGES..: what is then in the four blocks; 0PAGE has its OOB zeroed
+	failed=$1
+	shift
+	for page; do
+		case $page in
+		0*) zeroed <"${page#0}" ;;
+		*) cat "$page" ;;
+		esac
+	done >expected
+	"$ream" $update --failed "$failed" --apply anew --force >out 2>err
+	check "the plan after failed steps $failed is carried out" cmp expected anew
+}
+blank >blank_page
+carried_out 0 0old_primary blank_page new_primary new_mirror
+carried_out 1 0blank_page blank_page new_primary new_mirror
+carried_out 2 new_primary blank_page new_mirror 0old_mirror
+carried_out 3 new_primary blank_page new_mirror 0blank_page
+carried_out 1,1 0blank_page new_primary 0blank_page new_mirror
+carried_out 0,3 0old_primary new_mirror new_primary 0old_mirror
+carried_out 3,2 new_primary new_mirror 0blank_page 0blank_page
+{ ff 25344; cat free; } >free_whole
+expect 0 "version 6" update --pages-per-block 1 --mark-late 9 --failed 1 --apply anew_whole free_whole
+{ ff 25344; zeroed <blank_page; cat blank_page new_primary new_mirror; } >expected
+check "failed steps on a dump of the whole chip" cmp expected anew_whole
+
+# the zero step leaves the page's status as it is, and no other page
+{ primary 005; primary 005; blank; blank; blank; copy abcd 005; blank; blank; copy abcd 005
+	mirror 005; mirror 005; copy abcd 005; } >two_of_three
+two_pages="--blocks 8196 --pages-per-block 3 two_of_three"
+printf '\000\000\000\000\001\000\000\000' >two_status
+expect 0 "recover: nothing to do" recover $two_pages --status two_status
+for failed in 2,1 2,2; do
+	# the second page of the primary fails, then the erase or the first page at block 8194
+	expect 0 "update: 7 steps, to version 6" update $two_pages --status two_status --mark-late 9 --failed $failed \
+		--apply anew --status-out anew_status --force
+	plan_is "zero 8194 0, erase 8193 -, write 8193 0, write 8193 1, erase 8195 -, write 8195 0, write 8195 1"
+	[ $failed = 2,2 ] || printf '\000\000\000\000\001\000\000\000' >expected
+	[ $failed = 2,1 ] || printf '\000\000\000\000\000\000\000\000' >expected
+	check "a zero step leaves the page's status as it is" cmp expected anew_status
+	dd if=anew of=found bs=2112 count=3 2>/dev/null
+	primary 006 >first
+	poke first 2 '\367'
+	{ zeroed <first; blank; blank; } >expected
+	check "a zero step is on the first page of its block alone" cmp expected found
+	expect 0 "pair: settled, version 6, primary in block 8193, mirror in block 8195" \
+		pair --blocks 8196 --pages-per-block 3 --status anew_status anew
+	says "block 8192: bad (retired)"
+	says "block 8194: bad (retired)"
+done
+
+# recoveries: one copy written anew, a missing one, and both
+after_failed 0 "zero 15 0, erase 14 -, write 14 0" 12 14 recover $chip newer
+after_failed 1,2 "zero 14 0, erase 13 -, write 13 0" 12 13 recover $chip newer
+{ blank; blank; blank; mirror 006; } >one_mirror
+after_failed 0 "zero 14 0, erase 13 -, write 13 0" 13 15 recover $chip one_mirror
+says "failed: step 0, erase block 14; its copy goes to block 13"
+after_failed 1,1 "zero 13 0, erase 12 -, write 12 0" 12 15 recover $chip one_mirror
+after_failed 1 "zero 12 0, erase 14 -, write 14 0, erase 15 -, write 15 0" 14 15 recover $chip differing
+says "  block 0: primary reserved, mirror good; merged reserved"
+after_failed 3,1 "zero 14 0, erase 13 -, write 13 0" 12 13 recover $chip differing
+expect 0 "block 0: reserved" pair $chip anew
+# a first page that could not be read keeps its status under the zeros
+expect 0 "pair: settled, version 6, primary in block 13" recover $chip --unreadable 14:0 --failed 0 --apply anew \
+	--status-out anew_status --force one_mirror
+printf '\000\000\001\000' >expected
+check "a zero step leaves an unreadable page unreadable" cmp expected anew_status
+expect 0 "block 14: bad (retired)" pair $chip --status anew_status anew
+# a region of more blocks: the target is the highest that is free
+for size in 5 6 7; do
+	make_dump $size 1 $size 1 >region
+	lowest=$((16 - size))
+	failed=1
+	expected=14
+	while [ $expected -gt $lowest ]; do
+		expect 0 "pair: settled, version 6, primary in block $expected, mirror in block 15" update $alone $size \
+			--mark-late 9 --failed $failed --apply anew --force region
+		failed=$failed,2
+		expected=$((expected - 1))
+	done
+	expect 1 "update: refused, 11" update $alone $size --mark-late 9 --failed $failed region
+done
+# bad blocks and retired ones of the dump are no target
+expect 0 "zero      12" update $chip --mark-late 9 --failed 1 settled
+says "its copy goes to block 13"
+expect 1 "update: refused, 11" update $chip --mark-late 9 --failed 1 --unreadable 13:0 retired
+
+# refusals, of which the first one met is told; nothing is written then
+refused() { # NUMBER FAILED ARGUMENTS..
+	number=$1
+	failed=$2
+	shift 2
+	expect_none none 1 "refused, $number:" "$@" --failed "$failed" --apply none --pages none
+}
+for failed in 4 255 4,0 4,4; do
+	refused 2 $failed $update
+	says "failed: step ${failed%,*}, which its plan does not have: its steps are 0 to 3"
+	says "update: refused, 2: a number is outside its range"
+	says "  a failed step's number counts in the plan as it stood when the step failed"
+done
+refused 2 1,5 $update
+says "failed: step 1, write block 12 page 0; its copy goes to block 14"
+says "failed: step 5, which its plan does not have: its steps are 0 to 4"
+refused 2 3,3,0 $update
+says "failed: step 3, which its plan does not have: its steps are 0 to 2"
+refused 2 0 recover $chip settled
+says "failed: step 0, which its plan does not have: it is empty"
+refused 2 0 update $chip --mark-late 7 free
+for failed in 0,0 1,0 3,0 3,0,9 1,1,0; do
+	refused 12 $failed $update
+	says "update: refused, 12: a step that writes zeros failed"
+	says "  carry out no further step: dump the region again and recover it from there,"
+	says "  without --failed, as after a power cut (ream recover); then take the chip out"
+done
+says "failed: step 0, zero block 14"
+says "  block 14 is as its zero step left it, retired or not"
+for failed in 1,1,1 1,2,3 3,2,2 3,2,2,0 1,2,2,9; do
+	refused 11 $failed $update
+	says "update: refused, 11: there is no block to write a copy to"
+	says "  no block is left for its copy, as each is the other copy's, readable as bad or"
+	says "  carry out no further step: dump the region again and recover it from there,"
+done
+says "failed: step 2, write block 13 page 0"
+says "  failed; block 13 is not retired"
+refused 11 0,1,1 recover $chip one_mirror
+says "recover: refused, 11"
+says "failed: step 1, erase block 12"
+# what the dump holds is refused first
+for dump in no_copy:7 several:8 opposite:9 newer:10 no_target:10; do
+	refused "${dump#*:}" 9 update $chip --mark-late 1 "${dump%:*}"
+	says_not "failed: "
+	says "  --failed goes with the dump that the first plan was made from, as it was then"
+done
+for dump in no_copy:7 several:8 opposite:9 no_target:11; do
+	refused "${dump#*:}" 0 recover $chip "${dump%:*}"
+done
+says "  every block but the good copy's is readable as bad"
+says_not "carry out no further step"
+expect 1 "recover: refused, 11" recover $chip no_target
+says "  every block but the good copy's is readable as bad"
+says_not "--failed"
+
+# wrong lists
+for failed in x 1-2 1.5 1:0 "1 2" +1; do
+	expect_none none 2 "--failed $failed: cannot take \"$failed\"; expected steps' numbers with commas, as in 1,3" \
+		$update --apply none --failed "$failed"
+done
+for failed in 256 -1 99999999999999999999999; do
+	expect_none none 2 "--failed 1,$failed: $failed is out of range, expected steps from 0 to 255 (refusal 2: a number is" \
+		$update --apply none --failed "1,$failed"
+done
+expect 2 "--failed 1,: nothing stands after the last comma" $update --failed 1,
+expect 2 "--failed ,1: nothing stands before the first comma" $update --failed ,1
+expect 2 "--failed 1,,1: nothing stands between two commas" recover $chip --failed 1,,1 newer
+expect 2 "--failed: expected a value after it" recover $chip newer --failed
+expect 2 "--fail: no such option; --failed has to be named in full" recover $chip --fail 1 newer
+for command in "pair $chip" page; do
+	expect 2 "--failed: no such option" $command --failed 1 newer
+done
+most=$(awk 'BEGIN { for (i = 0; i < 256; i++) printf "%s9", i ? "," : "" }')
+refused 2 "$most" $update
+expect 2 "is one of more than 256 numbers" $update --failed "$most" --failed 9
+
 # ---- the pages of a plan
 
 expect 0 "     1  write     12     0  0x000006000  step-01-block-12-page-0.bin" update $chip --mark-late 5 --pages images settled
@@ -658,6 +925,29 @@ expect 0 "page written: empty_folder/step-01-block-15-page-0.bin" recover $chip 
 expect 0 "update: 10 steps" update --blocks 32768 --pages-per-block 4 --mark-late 0,32767 --pages all --apply all_applied large
 says "   9  write  32767     3  0x00ffff800"
 check "all pages of the longest plan" [ "$(ls all | wc -l)" -eq 8 ]
+# a zero step has a file, of which the OOB alone is for the chip
+expect 0 "     0  zero      12     0  0x000006000  step-00-block-12-zero.bin" $update --failed 1 --pages zero_images
+says "     2  write     14     0  0x000007000  step-02-block-14-page-0.bin"
+says "page written: zero_images/step-00-block-12-zero.bin"
+check "a file for each step but the erases" [ "$(ls zero_images | tr '\n' ' ')" = \
+	"step-00-block-12-zero.bin step-02-block-14-page-0.bin step-04-block-15-page-0.bin " ]
+blank | zeroed >expected
+check "the OOB of a zero step's file is 0, its data FF" cmp expected zero_images/step-00-block-12-zero.bin
+check "a page after failed steps" cmp new_primary zero_images/step-02-block-14-page-0.bin
+check "the other copy's page after failed steps" cmp new_mirror zero_images/step-04-block-15-page-0.bin
+expect 0 "page written" $update --failed 1 --pages zero_images --force
+expect 2 "is no page of this plan; expected a folder without others" $update --failed 3 --pages zero_images --force
+expect 2 "is no page of this plan; expected a folder without others" $update --pages zero_images --force
+expect 0 "update: 11 steps, to version 6" update --blocks 32768 --pages-per-block 4 --mark-late 0,32767 --failed 4 \
+	--pages all_anew --apply all_anew_applied --status-out all_anew_status large
+says "  10  write  32767     3  0x00ffff800"
+says "pair: settled, version 6, primary in block 32766, mirror in block 32767"
+check "all pages of the longest plan after a failed step" [ "$(ls all_anew | wc -l)" -eq 9 ]
+for page in 0 1 2 3; do
+	check "pages are the same wherever their copy goes" \
+		cmp all/step-0$((page + 1))-block-32764-page-$page.bin all_anew/step-0$((page + 2))-block-32766-page-$page.bin
+done
+
 cat all/step-0[1-4]* >expected
 dd if=all_applied bs=8448 count=1 of=found 2>/dev/null
 check "the pages in their names' order are the copy" cmp expected found
@@ -1027,7 +1317,36 @@ if command -v python3 >/dev/null && python3 -c 'import json' 2>/dev/null; then
 		"d['written'][1] == {'what': 'page', 'path': 'json_pages/step-01-block-15-page-0.bin'}"
 	check "what is told in JSON is written" cmp recovered 'new "quoted\'
 	json 1 recover $chip no_target
-	has "d['refusal']['number'] == 11"
+	has "d['refusal']['number'] == 11" "d['failed'] == []"
+	json 0 $update
+	has "d['failed'] == []"
+	json 0 $update --failed 1,3
+	has "d['failed'] == [{'step': 1, 'does': 'write', 'block': 12, 'page': 0, 'target': 14},
+			{'step': 3, 'does': 'erase', 'block': 15, 'target': 13}]" "d['refusal'] is None" "d['version'] == 6" \
+		"d['steps'] == [{'step': 0, 'does': 'zero', 'block': 15, 'page': 0, 'address': 30720},
+			{'step': 1, 'does': 'erase', 'block': 13, 'address': 26624},
+			{'step': 2, 'does': 'write', 'block': 13, 'page': 0, 'address': 26624}]" \
+		"d['marks'] == [{'block': 9, 'from': 'good', 'to': 'late'}]" \
+		"d['after'] == {'version': 6, 'primary': 14, 'mirror': 13}"
+	json 0 recover $chip --failed 0 --pages json_pages_anew newer
+	has "d['steps'][0]['file'] == 'step-00-block-15-zero.bin'" "'file' not in d['steps'][1]" \
+		"d['steps'][2]['file'] == 'step-02-block-14-page-0.bin'" "d['after']['mirror'] == 14" \
+		"[w['path'] for w in d['written']] == ['json_pages_anew/' + d['steps'][i]['file'] for i in (0, 2)]"
+	json 1 $update --failed 1,0,7
+	has "d['failed'] == [{'step': 1, 'does': 'write', 'block': 12, 'page': 0, 'target': 14},
+			{'step': 0, 'does': 'zero', 'block': 12, 'page': 0}]" "d['refusal'] == {'number': 12,
+			'text': 'a step that writes zeros failed'}" "'steps' not in d" "'after' not in d"
+	json 1 $update --failed 3,2,1
+	has "d['refusal']['number'] == 11" "d['failed'][2] == {'step': 1, 'does': 'erase', 'block': 13}"
+	json 1 $update --failed 9
+	has "d['refusal']['number'] == 2" "d['failed'] == [{'step': 9}]"
+	json 0 pair $chip --unreadable 13:0 retired
+	has "[b['holds'] for b in d['region']] == ['primary', 'retired', 'bad', 'mirror']" \
+		"[b['pages'] for b in d['region']] == ['P', 'R', 'B', 'M']" \
+		"d['dump']['unreadable'] == [{'block': 13, 'page': 0}]"
+	json 0 pair --blocks 8196 --pages-per-block 2 retired_two
+	has "[b['holds'] for b in d['region']] == ['primary', 'other', 'retired', 'mirror']" \
+		"[b['pages'] for b in d['region']] == ['PP', '-?', 'RP', 'MM']"
 	odd=$(printf 'odd\377\n\303\251')
 	cp settled "$odd"
 	json 0 pair $chip "$odd"
@@ -1069,10 +1388,21 @@ expect 0 "no rule broken" simulate --blocks 1024 --region-blocks 4 --seed 1 --ev
 check "a seed gives the same history again" cmp first out
 expect 0 "no rule broken" simulate --seed 2
 check "another seed gives another history" test -n "$(cmp first out 2>&1)"
-# what make run shows
-expect 0 "=> OLD table kept, v232: the cut update's new primary was not complete" simulate --seed 645 --events 13
-says "=> NEW table kept, v233: the cut update's new primary was complete"
+expect 0 "=> OLD table kept, v232: the update's new primary was not complete" simulate --seed 645 --events 13
+says "=> NEW table kept, v233: the update's new primary was complete"
 says "!CUT, step 1: page 0"
+says_not "failed"
+# what make run shows
+shown=$(sed -n 's/^.*ream simulate \(.*\) --svg .*/\1/p' "$root/Makefile")
+check "make run simulates" [ -n "$shown" ]
+expect 0 "=> OLD table kept, v221: the update's new primary was not complete" simulate $shown
+says "  2#FAIL step 0: erase      bad         erased     *unreadable  mirror 220  -"
+says "     => planned anew, 5 steps: 1022 will be retired, its copy goes to 1021"
+says "  3 step 0: zero            bad         erased     *retired     mirror 220  -"
+says "  7!CUT, step 4: page 0     bad         primary 221 retired    *erased      -"
+says "=> NEW table kept, v221: the update's new primary was complete"
+says "16 events: 2 updates planned, 2 power cuts, 2 recoveries planned"
+says "1 step failed: 1 planned anew, 0 dropped"
 
 # The old table has the version before the last update's, the new one its own.
 kept_as_told() {
@@ -1088,11 +1418,14 @@ for blocks in 8 8192 8196 16388 24580 32768; do
 	check "a cut is drawn" grep -q 'class="cut">CUT' "picture_$blocks"
 done
 # a region of more blocks: a column for each, in the text and in the picture
-rows() { # of the last run's history
-	grep '^ *[0-9][0-9]*[! ]' out | grep -vc ' events*: '
+history() { # of the last run: its rows
+	grep '^ *[0-9][0-9]*[!# ]' out | grep -v ' events*: \| steps* failed: '
+}
+rows() { # of the last run's history, how many
+	history | grep -c .
 }
 cells() { # PICTURE: its cells, without those of the legend
-	echo $(($(grep -c 'class="page ' "$1") - 6))
+	echo $(($(grep -c 'class="page ' "$1") - 7))
 }
 right_of_blocks() { # PICTURE
 	awk -F '"' '/class="page / && $2 + $6 > right { right = $2 + $6 } />table read</ { table = $2 }
@@ -1125,8 +1458,8 @@ says "  7 step 5: erase                *----  ????  ????  B???  PMM?  B???  P49 
 says "  8 step 6: page 0               *M---  ????  ????  B???  PMM?  B???  P49   -"
 expect 0 "no rule broken" simulate --blocks 32768 --region-blocks 7 --events 3000 --seed 18446744073709551615
 expect 0 "No good block is left to mark" simulate --blocks 16 --region-blocks 7 --events 2000
-expect 0 "picture written: picture_645" simulate --seed 645 --events 13 --svg picture_645
-check "the picture in docs is what make run draws" cmp "$root/docs/power-cuts.svg" picture_645
+expect 0 "picture written: picture_shown" simulate $shown --svg picture_shown
+check "the picture in docs is what make run draws" cmp "$root/docs/power-cuts.svg" picture_shown
 # the heads stand again every 40 rows; the bolt of a cut ends left of a number of four digits, 7 wide each
 expect 0 "no rule broken" simulate --events 85 --stop --svg picture_long
 check "the heads of the columns stand three times" [ "$(grep -c 'event, from top to bottom' picture_long)" -eq 3 ]
@@ -1148,17 +1481,87 @@ expect_none none 2 "--pages-per-block 1: expected at least 4" \
 	simulate --blocks 32768 --pages-per-block 1 --dump none
 expect_none none 2 "one argument too many" simulate --svg none extra
 
+# failed steps: what comes of them, and the blocks that are retired
+told_right() { # of the last run: each plan after a failed step starts with a zero step on its block, or it is dropped
+	awk '/^ *[0-9]+#/ { failed = 1; zeroes = / step 0: zero / }
+		/=> planned anew, [0-9]+ steps: [0-9]+ will be retired, its copy goes to [0-9]+$/ {
+			if (!failed || zeroes) exit 1; failed = 0; planned = 1; next }
+		/=> plan dropped, refusal 1[12]: / {
+			if (!failed || zeroes != /refusal 12: a step that writes zeros failed/) exit 1; failed = 0; next }
+		/^ *[0-9]+[ !#]/ && planned { if ($0 !~ /step 0: zero/ && $0 !~ /CUT before step 0/) exit 1; planned = 0 }
+		END { exit failed }' out
+}
+stays_retired() { # SIZE: of the last run, in letters: a block that is retired stays so
+	history | awk -v size="$1" '{ for (i = 0; i < size; i++) {
+			held = $(NF - size + i); sub(/^[*]/, "", held)
+			if (before[i] ~ /^R/ && held !~ /^R/) exit 1
+			before[i] = held } }'
+}
+expect 0 "judged after every event: no rule broken" simulate --failures --seed 2 --events 25
+says "cut, # a failed step. The table is read where the pair is settled."
+says "  9#FAIL step 1: page 0     mirror 66   unreadable  bad        *erased      -"
+says " 10 step 0: zero            mirror 66   unreadable  bad        *retired     -"
+says "     => plan dropped, refusal 11: there is no block to write a copy to"
+says "2 steps failed: 1 planned anew, 1 dropped"
+expect 0 "no rule broken" simulate --seed 2 --events 25
+says_not "failed"
+for shape in "1024 4" "8 4" "16 5" "8192 6" "8196 7" "16388 5" "24580 6" "32768 7"; do
+	blocks=${shape% *}
+	size=${shape#* }
+	for seed in 1 2 3; do
+		expect 0 "no rule broken" simulate --failures --blocks $blocks --region-blocks $size --seed $seed \
+			--events 150 --svg picture_failed --force
+		check "the table kept has its version" kept_as_told
+		check "what comes of failed steps is told" told_right
+		[ $size -eq 4 ] || check "a retired block stays retired" stays_retired $size
+		failed=$(grep -c '^ *[0-9]*#' out)
+		cuts=$(grep -c '^ *[0-9]*!' out)
+		anew=$(grep -c '=> planned anew' out)
+		check "the failed steps are counted" \
+			grep -q "^$failed steps* failed: $anew planned anew, $((failed - anew)) dropped" out
+		check "each failed step is drawn" [ "$(grep -c 'class="failed">FAILED step' picture_failed)" -eq "$failed" ]
+		check "each failed step has a cross, as the legend" \
+			[ "$(grep -c 'M12 5 L2 15' picture_failed)" -eq $((1 + failed)) ]
+		check "each cut has a bolt, as the legend" [ "$(grep -c 'L13 8 L8 8 Z' picture_failed)" -eq $((1 + cuts)) ]
+		check "the picture has every page of the region in every row" \
+			[ "$(cells picture_failed)" -eq $(($(rows) * size * ((blocks + 8191) / 8192))) ]
+		check "the picture's title tells of failed steps" \
+			grep -q "<title>A bad-block table through power cuts and failed steps</title>" picture_failed
+	done
+done
+check "without failed steps no title tells of them" [ -z "$(grep 'failed steps' picture_8)" ]
+check "retired blocks are drawn" grep -q 'class="page retired"' picture_failed
+# a zero step that is cut or fails leaves its page as it was, retired or unreadable; where a failed write has left its
+# page complete all the same, the first keeps the new table
+expect 0 "no rule broken" simulate --failures --seed 19 --events 12
+says "  8#FAIL step 1: page 0     other      *primary 60  bad         mirror 59   -"
+says "  9!CUT, step 0: zero       other      *primary 60  bad         mirror 59   -"
+says "     => NEW table kept, v60: the update's new primary was complete"
+expect 0 "no rule broken" simulate --failures --seed 64 --events 4
+says "  2#FAIL step 0: erase      other       other      *primary 128 mirror 128  v128"
+says "  3!CUT, step 0: zero       other       other      *retired     mirror 128  -"
+says "     => OLD table kept, v128: the update's new primary was not complete"
+expect 0 "  3#FAIL step 0: zero      *unreadable  mirror 0    retired     erased      -" simulate --failures --seed 97 --events 14
+says "     => plan dropped, refusal 12: a step that writes zeros failed"
+says "  4 recovery to v0          unreadable  mirror 0    retired     erased      -"
+expect 0 "no rule broken" simulate --failures --blocks 32768 --events 100000 --seed 3
+check "the longest words fit" [ -n "$(grep '=> planned anew, 11 steps: 327' out)" ]
+expect 2 "--failures: takes no value" simulate --failures=1
+expect 2 "--failures: is given twice" simulate --failures --failures
+
 expect 0 "3 events: 1 update planned, 1 power cut, 0 recoveries planned" simulate --seed 6 --events 3 --stop
 expect 0 "1 event: 1 update planned, 0 power cuts, 0 recoveries planned" simulate --events 1 --stop
 expect 0 "1 recovery planned" simulate --seed 6 --events 3
 expect 0 "no rule broken" simulate --blocks 32768 --events 3000 --seed 18446744073709551615
 expect 2 "--seed -8: out of range, expected a number from 0 to 18446744073709551615" simulate --seed -8
-# What a history leaves where it stops can be recovered, and then updated: on regions of four blocks, and of more.
+# What a history leaves where it stops can be recovered, and then updated: on regions of four blocks, and of more; with
+# failed steps, and without.
 for seed in 1 2 3 4 5 6 7 8 9 10 11 12 13 14 15 16 17 18 19 20 21 22 23 24; do
 	blocks=$((seed % 4 * 8192 + 8192))
 	shape="--blocks $blocks --pages-per-block 5"
 	[ $seed -le 12 ] || shape="--blocks $((blocks - 4)) --pages-per-block 5 --region-blocks $((5 + seed % 3))"
-	expect 0 "no rule broken" simulate $shape --seed $seed --events $((seed + 2)) --stop --force \
+	failing=$([ $((seed % 3)) -eq 0 ] || echo --failures)
+	expect 0 "no rule broken" simulate $shape $failing --seed $seed --events $((seed + 2)) --stop --force \
 		--dump cut --status-out cut_status
 	expect 0 "pair: settled" recover $shape --status cut_status --apply mended --status-out mended_status \
 		--force cut
@@ -1188,7 +1591,7 @@ expect 0 "usage: ream COMMAND" --help
 expect 0 "usage: ream COMMAND" -h
 expect 0 "usage: ream COMMAND" help
 expect 2 "pear: no such command" help pear
-expect 0 "ream 2.0" --version
+expect 0 "ream 3.0" --version
 
 check "no temporary file is left" test -z "$(find . -name '*.??????')"
 
@@ -1213,12 +1616,24 @@ sed -n '/^update: 4 steps/,/^\.EE/p' "$manual" | sed '/^\.EE/d' | plain >printed
 expect 0 "update: 4 steps" update --blocks 1024 --mark-late 17 --pages steps region.bin
 sed -n '/^update: 4 steps/,/^ *3 /p' out >found
 check "the manual prints the plan as it is" cmp printed found
-sed -n '/^# [fn]/,/[^e]$/p' "$manual" | plain | sed 's|^# ||; s|/dev/mtd0|no_chip|' >chip_commands
-check "the manual has the commands for a chip" [ "$(grep -c '^nanddump\|^flash_erase\|^nandwrite' chip_commands)" -eq 5 ]
-if command -v nanddump >/dev/null && command -v flash_erase >/dev/null && command -v nandwrite >/dev/null; then
+sed -n '/^failed: step 2/,/^\.EE/p' "$manual" | sed '/^\.EE/d' | plain >printed
+expect 0 "update: 3 steps" update --blocks 1024 --mark-late 17 --failed 2 --pages anew_steps region.bin
+sed -n '/^failed: /,/^  a zero/p' out >found
+check "the manual prints the plan after a failed step as it is" cmp printed found
+sed -n '/^\.EX/,/^\.EE/p' "$manual" | plain | awk '/^# (nanddump|flash_erase|nandwrite|mtdpart) / { on = 1 }
+	on { print } !/\\$/ { on = 0 }' | sed 's|^# ||; s|/dev/mtd[0-9]|no_chip|' >chip_commands
+check "the manual has the commands for a chip" [ "$(grep -c '^[a-z]' chip_commands)" -eq 11 ]
+sed -n 's|^    \([a-z]*\)/\(step-.*\)|\1 \2|p' chip_commands >named
+while read -r folder name; do
+	[ "$folder" = steps ] || folder=anew_steps
+	check "the manual names files as they are: $name" [ -s "$folder/$name" ]
+done <named
+check "the manual writes every page" [ "$(grep -c . named)" -eq 4 ]
+if command -v nanddump >/dev/null && command -v flash_erase >/dev/null && command -v nandwrite >/dev/null &&
+	command -v mtdpart >/dev/null; then
 	sh ./chip_commands >out 2>&1
 	check "mtd-utils take the commands' options" [ -z "$(grep -i 'usage\|unrecognized\|invalid\|parse\|--help' out)" ]
-	check "mtd-utils come as far as the chip" [ "$(grep -c 'error!' out)" -ge 5 ]
+	check "mtd-utils come as far as the chip" [ "$(grep -c 'error!' out)" -ge 11 ]
 else
 	skipped "the manual's commands for a chip: there are no mtd-utils"
 fi

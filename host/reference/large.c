@@ -1,7 +1,7 @@
 /*
  * The large chip, straight from document 01, in its order and its words, as small.c has the small page. What that
- * says of the region's four blocks holds for the size that is given, as document 02 has it. Nothing here is shared
- * with the library, not even its header.
+ * says of the region's four blocks holds for the size that is given, as document 02 has it. What becomes of a plan
+ * whose steps fail is in failed.c. Nothing here is shared with the library, not even its header.
  *
  * Reading a table, planning an update and its page images are the benchmark's yardstick besides, so they do
  * their work as a C programmer would: bitmaps are compared by memcmp and copied by memcpy, a page's part at a
@@ -12,24 +12,13 @@
 #include <stdbool.h>
 #include <string.h>
 
+#include "plans.h"
+
 enum {
 	DATA = 2048,
-	PAGE = 2048 + 64,
-	MOST_BITMAP = 8192,	/* N/4 of the largest N */
-	MOST_STEPS = 10,	/* "2P + 2 steps, at most ten" */
+	OOB = 64,
+	PAGE = DATA + OOB,
 	STEPS_LEN = 64,
-};
-
-/* "Refusal numbers" */
-enum refusal {
-	ANSWERED = 0,
-	WRONG_LENGTH = 1,
-	OUT_OF_RANGE = 2,
-	NO_GOOD_COPY = 7,
-	SEVERAL_OF_A_KIND = 8,
-	OPPOSITE_VERSIONS = 9,
-	NOT_SETTLED = 10,
-	NO_TARGET = 11,
 };
 
 /* ---- the chip */
@@ -52,16 +41,7 @@ static size_t pages_of(uint64_t n)
 	return (size_t)((n / 4 + 2047) / 2048);
 }
 
-/* ---- the region: a lent image and its status bytes, of a valid N and size and of the right lengths. Its blocks
- * are counted from 0, lowest first. */
-
-struct region {
-	uint64_t n;
-	uint64_t size;	/* its blocks, the last of the chip */
-	size_t pages;	/* P */
-	const uint8_t *image;
-	const uint8_t *status;
-};
+/* ---- the region */
 
 static const uint8_t *data_of(const struct region *region, size_t block, size_t page)
 {
@@ -103,8 +83,6 @@ static size_t part_len(const struct region *region, size_t page)
 
 /* ---- copies */
 
-enum kind { PRIMARY, MIRROR };
-
 /* "in OOB 14-17 its signature, primary 42 62 74 30, mirror 31 74 62 42" */
 static const uint8_t signature[2][4] = { { 0x42, 0x62, 0x74, 0x30 }, { 0x31, 0x74, 0x62, 0x42 } };
 
@@ -132,13 +110,23 @@ static bool is_good(const struct region *region, size_t block, enum kind kind)
 	return true;
 }
 
-/* "It is readable as bad if its first page reads well, has neither signature, and OOB byte 0 is 0." */
-static bool is_readable_as_bad(const struct region *region, size_t block)
+static bool all_zero(const uint8_t *oob)
+{
+	for (size_t i = 0; i < OOB; i++)
+		if (oob[i] != 0)
+			return false;
+	return true;
+}
+
+/* "It is readable as bad if its first page reads well, has neither signature, and OOB byte 0 is 0." Document 02: "A
+ * block whose first page shows 64 zero OOB bytes counts as readable as bad whatever its read status". */
+bool ref_readable_as_bad(const struct region *region, size_t block)
 {
 	const uint8_t *oob = oob_of(region, block, 0);
+	const bool marked = reads_well(region, block, 0) && !has_signature(oob, PRIMARY) &&
+			    !has_signature(oob, MIRROR) && oob[0] == 0;
 
-	return reads_well(region, block, 0) && !has_signature(oob, PRIMARY) && !has_signature(oob, MIRROR) &&
-	       oob[0] == 0;
+	return marked || all_zero(oob);
 }
 
 /* ---- the pair */
@@ -217,30 +205,21 @@ static void table_copy(const struct region *region, size_t block, uint8_t *table
 
 /* ---- plans */
 
-enum step_kind { ERASE = 0, WRITE = 1 };
-
-struct step {
-	enum step_kind kind;
-	uint64_t block;		/* chip block */
-	size_t page;		/* 0 for an erase */
-	enum kind copy;		/* the kind of copy that it makes */
-};
-
-struct plan {
-	uint8_t version;
-	size_t count;
-	struct step step[MOST_STEPS];
-	uint8_t table[MOST_BITMAP];	/* what its writes put down */
-};
-
-/* Adds the steps of one copy: "erase the block, write its P pages", in rising order. */
-static void plan_copy(struct plan *plan, const struct region *region, enum kind kind, size_t block)
+/* "erase the block, write its P pages", in rising order. */
+void ref_plan_copy(struct plan *plan, const struct region *region, enum kind kind, size_t block)
 {
-	const uint64_t at = chip_block(region, block);
-
-	plan->step[plan->count++] = (struct step){ ERASE, at, 0, kind };
+	plan->at[kind] = block;
+	plan->step[plan->count++] = (struct step){ ERASE, block, 0, kind };
 	for (size_t page = 0; page < region->pages; page++)
-		plan->step[plan->count++] = (struct step){ WRITE, at, page, kind };
+		plan->step[plan->count++] = (struct step){ WRITE, block, page, kind };
+}
+
+/* A plan with no step as yet, beside the copies of a pair. */
+static void plan_begin(struct plan *plan, const struct pair *pair)
+{
+	plan->count = 0;
+	plan->at[PRIMARY] = pair->block[PRIMARY];
+	plan->at[MIRROR] = pair->block[MIRROR];
 }
 
 /* "Erase the primary's block, write its P pages, erase the mirror's block, write its P pages, all with
@@ -248,8 +227,8 @@ static void plan_copy(struct plan *plan, const struct region *region, enum kind 
 static void plan_both(struct plan *plan, const struct region *region, const struct pair *pair)
 {
 	plan->version = (uint8_t)((version_of(region, pair->block[PRIMARY]) + 1) % 256);
-	plan_copy(plan, region, PRIMARY, pair->block[PRIMARY]);
-	plan_copy(plan, region, MIRROR, pair->block[MIRROR]);
+	ref_plan_copy(plan, region, PRIMARY, pair->block[PRIMARY]);
+	ref_plan_copy(plan, region, MIRROR, pair->block[MIRROR]);
 }
 
 /* "Each entry of the new table is the old entry where that isn't 11, else the wanted one." A byte holds four
@@ -285,7 +264,7 @@ static enum refusal update_judge(const struct region *region, const uint8_t *wan
 	table_copy(region, pair.block[PRIMARY], old);
 	table_update(plan->table, old, wanted, len);
 	plan->version = version_of(region, pair.block[PRIMARY]);
-	plan->count = 0;
+	plan_begin(plan, &pair);
 	if (memcmp(plan->table, old, len) != 0)
 		plan_both(plan, region, &pair);
 	return ANSWERED;
@@ -301,14 +280,14 @@ static void recover_both(const struct region *region, const struct pair *pair, s
 		/* "the same the other way" */
 		table_copy(region, mirror, plan->table);
 		plan->version = version_of(region, mirror);
-		plan_copy(plan, region, PRIMARY, primary);
+		ref_plan_copy(plan, region, PRIMARY, primary);
 		return;
 	}
 	table_copy(region, primary, plan->table);
 	plan->version = version_of(region, primary);
 	if (d > 0) {
 		/* "erase the mirror's block, write the primary's table there as mirror" */
-		plan_copy(plan, region, MIRROR, mirror);
+		ref_plan_copy(plan, region, MIRROR, mirror);
 	} else if (!bitmaps_equal(region, pair)) {
 		/* "AND both bitmaps, then an update's steps with version plus 1" */
 		uint8_t other[MOST_BITMAP];
@@ -324,11 +303,11 @@ static void recover_both(const struct region *region, const struct pair *pair, s
 static enum refusal recover_one(const struct region *region, size_t good, enum kind missing, struct plan *plan)
 {
 	for (size_t target = (size_t)region->size; target-- > 0;) {
-		if (target == good || is_readable_as_bad(region, target))
+		if (target == good || ref_readable_as_bad(region, target))
 			continue;
 		table_copy(region, good, plan->table);
 		plan->version = version_of(region, good);
-		plan_copy(plan, region, missing, target);
+		ref_plan_copy(plan, region, missing, target);
 		return ANSWERED;
 	}
 	return NO_TARGET;
@@ -342,7 +321,7 @@ static enum refusal recovery_judge(const struct region *region, struct plan *pla
 	if (pair_refusal(region, &pair) != ANSWERED)
 		return pair_refusal(region, &pair);
 
-	plan->count = 0;
+	plan_begin(plan, &pair);
 	if (pair.good[MIRROR] == 0)
 		return recover_one(region, pair.block[PRIMARY], MIRROR, plan);
 	if (pair.good[PRIMARY] == 0)
@@ -365,17 +344,17 @@ static void page_lay_out(const struct region *region, const struct plan *plan, c
 }
 
 /* "Steps are numbered from 0." "A step number past the plan's end, or of an erase": refusal 2, which comes
- * last. */
+ * last. Document 02: "its zero step, like an erase, has no page image". */
 static enum refusal page_image(const struct region *region, const struct plan *plan, uint64_t number, uint8_t *page)
 {
-	if (number >= plan->count || plan->step[number].kind == ERASE)
+	if (number >= plan->count || plan->step[number].kind != WRITE)
 		return OUT_OF_RANGE;
 	page_lay_out(region, plan, &plan->step[number], page);
 	return ANSWERED;
 }
 
 /* ---- the entries. Order of refusals: N and size, then lengths, then status bytes, then 8, 7, 9, then 10 or
- * 11, and last the step's number. */
+ * 11, then what is met among the failed steps, and last the step's number. */
 
 /* The first three of these. `others_fit`: are the lengths of the buffers beside image and status right? */
 static enum refusal arguments_refusal(const struct region *region, size_t image_len, size_t status_len,
@@ -391,33 +370,49 @@ static enum refusal arguments_refusal(const struct region *region, size_t image_
 	return ANSWERED;
 }
 
+/* Document 02: "Planning and page images are lent what the first plan was made from and the failed steps' numbers, a
+ * byte each, oldest first." */
+struct failed {
+	const uint8_t *number;
+	size_t count;
+};
+
 /* Every refusal but that of a step's number, or the plan of an update. */
 static enum refusal update_planned(const struct region *region, size_t image_len, size_t status_len,
-				   bool others_fit, const uint8_t *wanted, struct plan *plan)
+				   bool others_fit, const uint8_t *wanted, struct failed failed, struct plan *plan)
 {
-	const enum refusal refusal = arguments_refusal(region, image_len, status_len, others_fit);
+	enum refusal refusal = arguments_refusal(region, image_len, status_len, others_fit);
 
-	return refusal != ANSWERED ? refusal : update_judge(region, wanted, plan);
+	if (refusal == ANSWERED)
+		refusal = update_judge(region, wanted, plan);
+	if (refusal == ANSWERED)
+		refusal = ref_plan_again(region, failed.number, failed.count, plan);
+	return refusal;
 }
 
 /* The same of a recovery. */
 static enum refusal recovery_planned(const struct region *region, size_t image_len, size_t status_len,
-				     bool others_fit, struct plan *plan)
+				     bool others_fit, struct failed failed, struct plan *plan)
 {
-	const enum refusal refusal = arguments_refusal(region, image_len, status_len, others_fit);
+	enum refusal refusal = arguments_refusal(region, image_len, status_len, others_fit);
 
-	return refusal != ANSWERED ? refusal : recovery_judge(region, plan);
+	if (refusal == ANSWERED)
+		refusal = recovery_judge(region, plan);
+	if (refusal == ANSWERED)
+		refusal = ref_plan_again(region, failed.number, failed.count, plan);
+	return refusal;
 }
 
 /* A plan's steps, four bytes each, and its answer: version in bits 8-15, number of steps in bits 16-23. */
-static uint64_t plan_write(const struct plan *plan, uint8_t *steps)
+static uint64_t plan_write(const struct region *region, const struct plan *plan, uint8_t *steps)
 {
 	for (size_t i = 0; i < plan->count; i++) {
 		const struct step *step = &plan->step[i];
+		const uint64_t block = chip_block(region, step->block);
 
 		steps[4 * i] = (uint8_t)step->kind;
-		steps[4 * i + 1] = (uint8_t)(step->block / 256);
-		steps[4 * i + 2] = (uint8_t)(step->block % 256);
+		steps[4 * i + 1] = (uint8_t)(block / 256);
+		steps[4 * i + 2] = (uint8_t)(block % 256);
 		steps[4 * i + 3] = (uint8_t)step->page;
 	}
 	return (uint64_t)plan->version << 8 | (uint64_t)plan->count << 16;
@@ -467,40 +462,47 @@ uint64_t ref_table_read(uint64_t n, uint64_t size, const uint8_t *image, size_t 
 }
 
 uint64_t ref_update_plan(uint64_t n, uint64_t size, const uint8_t *image, size_t image_len, const uint8_t *status,
-			 size_t status_len, const uint8_t *wanted, size_t wanted_len, uint8_t *steps,
-			 size_t steps_len)
+			 size_t status_len, const uint8_t *wanted, size_t wanted_len, const uint8_t *failed,
+			 size_t failed_len, uint8_t *steps, size_t steps_len)
 {
 	const struct region region = { n, size, pages_of(n), image, status };
+	const struct failed numbers = { failed, failed_len };
 	const bool others_fit = wanted_len == n / 4 && steps_len == STEPS_LEN;
 	struct plan plan;
-	const enum refusal refusal = update_planned(&region, image_len, status_len, others_fit, wanted, &plan);
+	const enum refusal refusal = update_planned(&region, image_len, status_len, others_fit, wanted, numbers,
+						    &plan);
 
 	if (refusal != ANSWERED)
 		return refusal;
-	return plan_write(&plan, steps);
+	return plan_write(&region, &plan, steps);
 }
 
 uint64_t ref_recovery_plan(uint64_t n, uint64_t size, const uint8_t *image, size_t image_len, const uint8_t *status,
-			   size_t status_len, uint8_t *steps, size_t steps_len)
+			   size_t status_len, const uint8_t *failed, size_t failed_len, uint8_t *steps,
+			   size_t steps_len)
 {
 	const struct region region = { n, size, pages_of(n), image, status };
+	const struct failed numbers = { failed, failed_len };
 	struct plan plan;
-	const enum refusal refusal = recovery_planned(&region, image_len, status_len, steps_len == STEPS_LEN, &plan);
+	const enum refusal refusal = recovery_planned(&region, image_len, status_len, steps_len == STEPS_LEN, numbers,
+						      &plan);
 
 	if (refusal != ANSWERED)
 		return refusal;
-	return plan_write(&plan, steps);
+	return plan_write(&region, &plan, steps);
 }
 
 /* "Page images, 2,112 bytes each, are asked for by step number from the snapshot the plan was made from." */
 uint64_t ref_update_page(uint64_t n, uint64_t size, const uint8_t *image, size_t image_len, const uint8_t *status,
-			 size_t status_len, const uint8_t *wanted, size_t wanted_len, uint64_t step,
-			 uint8_t *page, size_t page_len)
+			 size_t status_len, const uint8_t *wanted, size_t wanted_len, const uint8_t *failed,
+			 size_t failed_len, uint64_t step, uint8_t *page, size_t page_len)
 {
 	const struct region region = { n, size, pages_of(n), image, status };
+	const struct failed numbers = { failed, failed_len };
 	const bool others_fit = wanted_len == n / 4 && page_len == PAGE;
 	struct plan plan;
-	const enum refusal refusal = update_planned(&region, image_len, status_len, others_fit, wanted, &plan);
+	const enum refusal refusal = update_planned(&region, image_len, status_len, others_fit, wanted, numbers,
+						    &plan);
 
 	if (refusal != ANSWERED)
 		return refusal;
@@ -508,11 +510,14 @@ uint64_t ref_update_page(uint64_t n, uint64_t size, const uint8_t *image, size_t
 }
 
 uint64_t ref_recovery_page(uint64_t n, uint64_t size, const uint8_t *image, size_t image_len, const uint8_t *status,
-			   size_t status_len, uint64_t step, uint8_t *page, size_t page_len)
+			   size_t status_len, const uint8_t *failed, size_t failed_len, uint64_t step,
+			   uint8_t *page, size_t page_len)
 {
 	const struct region region = { n, size, pages_of(n), image, status };
+	const struct failed numbers = { failed, failed_len };
 	struct plan plan;
-	const enum refusal refusal = recovery_planned(&region, image_len, status_len, page_len == PAGE, &plan);
+	const enum refusal refusal = recovery_planned(&region, image_len, status_len, page_len == PAGE, numbers,
+						      &plan);
 
 	if (refusal != ANSWERED)
 		return refusal;

@@ -1,6 +1,6 @@
 /*
- * The entries of the library once more, written straight from document 01 for the host programs to
- * compare with: the small chip's in small.c, the large chip's in large.c. Parameters and
+ * The entries of the library once more, written straight from documents 01 and 02 for the host programs to
+ * compare with: the small chip's in small.c, the large chip's in large.c and failed.c. Parameters and
  * answers are those of the entries in include/reamsickle.h.
  */
 #ifndef REFERENCE_H
@@ -26,17 +26,19 @@ uint64_t ref_table_read(uint64_t n, uint64_t size, const uint8_t *image, size_t 
 			size_t status_len, uint8_t *bitmap, size_t bitmap_len);
 
 uint64_t ref_update_plan(uint64_t n, uint64_t size, const uint8_t *image, size_t image_len, const uint8_t *status,
-			 size_t status_len, const uint8_t *wanted, size_t wanted_len, uint8_t *steps,
-			 size_t steps_len);
+			 size_t status_len, const uint8_t *wanted, size_t wanted_len, const uint8_t *failed,
+			 size_t failed_len, uint8_t *steps, size_t steps_len);
 
 uint64_t ref_recovery_plan(uint64_t n, uint64_t size, const uint8_t *image, size_t image_len, const uint8_t *status,
-			   size_t status_len, uint8_t *steps, size_t steps_len);
+			   size_t status_len, const uint8_t *failed, size_t failed_len, uint8_t *steps,
+			   size_t steps_len);
 
 uint64_t ref_update_page(uint64_t n, uint64_t size, const uint8_t *image, size_t image_len, const uint8_t *status,
-			 size_t status_len, const uint8_t *wanted, size_t wanted_len, uint64_t step,
-			 uint8_t *page, size_t page_len);
+			 size_t status_len, const uint8_t *wanted, size_t wanted_len, const uint8_t *failed,
+			 size_t failed_len, uint64_t step, uint8_t *page, size_t page_len);
 
 uint64_t ref_recovery_page(uint64_t n, uint64_t size, const uint8_t *image, size_t image_len, const uint8_t *status,
-			   size_t status_len, uint64_t step, uint8_t *page, size_t page_len);
+			   size_t status_len, const uint8_t *failed, size_t failed_len, uint64_t step,
+			   uint8_t *page, size_t page_len);
 
 #endif

@@ -11,6 +11,11 @@ static bool is_update(enum asked asked)
 	return asked == UPDATE_PLAN || asked == UPDATE_PAGE;
 }
 
+static bool is_plan(enum asked asked)
+{
+	return asked == UPDATE_PLAN || asked == RECOVERY_PLAN;
+}
+
 static void lend(struct driver *driver, enum buffer buffer, const uint8_t *bytes, size_t len)
 {
 	lent_set(&driver->lent[buffer], bytes, len, driver->turn);
@@ -20,8 +25,7 @@ static void lend(struct driver *driver, enum buffer buffer, const uint8_t *bytes
 static void lend_all(struct driver *driver, uint64_t *state, const struct request *request)
 {
 	const struct region *region = request->region;
-	const size_t out_len = request->asked == UPDATE_PLAN || request->asked == RECOVERY_PLAN ? REAM_STEPS_SIZE
-											      : PAGE_BYTES;
+	const size_t out_len = is_plan(request->asked) ? REAM_STEPS_SIZE : PAGE_BYTES;
 	uint8_t out[PAGE_BYTES];
 
 	memset(out, (int)draw_below(state, 256), sizeof(out));
@@ -32,11 +36,12 @@ static void lend_all(struct driver *driver, uint64_t *state, const struct reques
 		lend(driver, WANTED, request->wanted, (size_t)region->n / 4);
 	else
 		lend(driver, WANTED, out, 0);
+	lend(driver, FAILED, request->failures > 0 ? request->failed : out, request->failures);
 	lend(driver, OUT, out, out_len);
 }
 
-/* A length that is not the one lent. The bytes behind a buffer are the driver's own, so nothing happens to
- * others even where a length is told too long. */
+/* A length that is not the one lent. Of the failed steps none is wrong. The bytes behind a buffer are the driver's
+ * own, so nothing happens to others even where a length is told too long. */
 static void spoil_length(struct driver *driver, uint64_t *state, enum asked asked)
 {
 	static const enum buffer buffers[] = { IMAGE, STATUS, OUT, WANTED };
@@ -87,16 +92,17 @@ static uint64_t call(struct driver *driver, enum asked asked, const struct told 
 #define LENT(buffer) lent_bytes(&driver->lent[buffer]), driver->lent[buffer].len
 	switch (asked) {
 	case UPDATE_PLAN:
-		return ream_update_plan(n, size, LENT(IMAGE), LENT(STATUS), LENT(WANTED), LENT(OUT));
+		return ream_update_plan(n, size, LENT(IMAGE), LENT(STATUS), LENT(WANTED), LENT(FAILED), LENT(OUT));
 	case RECOVERY_PLAN:
-		return ream_recovery_plan(n, size, LENT(IMAGE), LENT(STATUS), LENT(OUT));
+		return ream_recovery_plan(n, size, LENT(IMAGE), LENT(STATUS), LENT(FAILED), LENT(OUT));
 	case UPDATE_PAGE:
-		return ream_update_page(n, size, LENT(IMAGE), LENT(STATUS), LENT(WANTED), told->step, LENT(OUT));
+		return ream_update_page(n, size, LENT(IMAGE), LENT(STATUS), LENT(WANTED), LENT(FAILED), told->step,
+					LENT(OUT));
 	case RECOVERY_PAGE:
 	case ASKS:
 		break;
 	}
-	return ream_recovery_page(n, size, LENT(IMAGE), LENT(STATUS), told->step, LENT(OUT));
+	return ream_recovery_page(n, size, LENT(IMAGE), LENT(STATUS), LENT(FAILED), told->step, LENT(OUT));
 #undef LENT
 }
 
@@ -113,6 +119,18 @@ static void check(struct driver *driver, bool refused)
 	}
 }
 
+/* Checks the room behind the steps of a plan that was given. */
+static void check_room(struct driver *driver, uint64_t answer)
+{
+	const size_t filled = (size_t)REAM_STEP_SIZE * ream_step_count(answer);
+
+	if (filled > REAM_STEPS_SIZE)
+		driver->broken = "a plan fits into its room";
+	else if (memcmp(lent_bytes(&driver->lent[OUT]) + filled, driver->before[OUT] + filled,
+			REAM_STEPS_SIZE - filled) != 0)
+		driver->broken = "no call writes behind the last step of its plan";
+}
+
 uint64_t driver_ask(struct driver *driver, uint64_t *state, const struct request *request)
 {
 	struct told told = { request->region->n, request->region->size, request->step };
@@ -124,6 +142,8 @@ uint64_t driver_ask(struct driver *driver, uint64_t *state, const struct request
 		memcpy(driver->before[i], lent_bytes(&driver->lent[i]), driver->lent[i].held);
 	answer = call(driver, request->asked, &told);
 	check(driver, ream_refusal(answer) != REAM_OK);
+	if (is_plan(request->asked) && ream_refusal(answer) == REAM_OK)
+		check_room(driver, answer);
 	return answer;
 }
 

@@ -1,7 +1,8 @@
 /*
  * The library as the driver of a history calls it: the four entries that plan and give pages. Every buffer is
  * lent between guard bytes (lent.h). Of each call it is checked that no guard byte and no input has changed,
- * and no output either if the call was refused; what is found wrong stands in `broken`.
+ * no output either if the call was refused, and no byte behind the last step of a plan; what is found wrong stands in
+ * `broken`.
  */
 #ifndef DRIVER_H
 #define DRIVER_H
@@ -17,12 +18,14 @@ enum asked { UPDATE_PLAN, RECOVERY_PLAN, UPDATE_PAGE, RECOVERY_PAGE, ASKS };
 enum flaw { NO_FLAW, FLAW_N, FLAW_SIZE, FLAW_LENGTH, FLAW_STATUS, FLAWS };
 
 /* The buffers of a call. A recovery's has no wanted bitmap. */
-enum buffer { IMAGE, STATUS, WANTED, OUT, BUFFERS };
+enum buffer { IMAGE, STATUS, WANTED, FAILED, OUT, BUFFERS };
 
 struct request {
 	enum asked asked;
 	const struct region *region;	/* the snapshot */
 	const uint8_t *wanted;		/* of an update */
+	const uint8_t *failed;		/* the numbers of failed steps, .. */
+	size_t failures;		/* .. so many; of a first plan none */
 	uint64_t step;			/* of a page */
 	enum flaw flaw;
 };

@@ -4,17 +4,26 @@
 
 #include "history.h"
 
-/* A plan is asked for. If it is given, it is taken in hand. */
+/* A plan is asked for. If it is given, it is taken in hand. (plans.c) */
 void plan_update(struct history *history);
 void plan_recovery(struct history *history);
 
-/* A call is refused and changes nothing: for its arguments, or for a step of the plan in hand that writes no
- * page. */
+/* What is wanted of an update: drawn, and told as a row of the tally. */
+enum tally_row draw_wanted(struct history *history, uint8_t *wanted);
+
+/* A step of the plan in hand has failed: it is asked for again with that step's number, and goes on at step 0, or is
+ * given up if that is refused. */
+void plan_again(struct history *history);
+
+/* A call is refused and changes nothing: for its arguments, for a step of the plan in hand that writes no page, or
+ * for the number of a failed step. (refused.c) */
 void refuse_arguments(struct history *history);
 void refuse_step(struct history *history);
+void refuse_failed(struct history *history);
 
-/* The next step of the plan in hand is done, or cut; or power is cut before it. */
+/* The next step of the plan in hand is done, fails, or is cut; or power is cut before it. (steps.c) */
 void do_step(struct history *history);
+void fail_step(struct history *history);
 void cut_in_step(struct history *history);
 void cut_between_steps(struct history *history);
 

@@ -1,6 +1,7 @@
 /*
  * The plan in hand of a history, and what is noted of its events. A plan is taken in hand, its steps are done one
- * after the other, and it is over by its end, by a cut or by another plan.
+ * after the other, and it is over by its end, by a cut, by another plan, or because it is given up. When a step fails
+ * it is made again, from the same snapshot and with the failed steps' numbers, and goes on at step 0.
  */
 #ifndef HAND_H
 #define HAND_H
@@ -27,7 +28,10 @@ unsigned region_block(const struct history *history, const struct ream_step *ste
 /* Takes a plan that was just given into the hand. One with no step has run to its end. */
 void take_in_hand(struct history *history, enum holding holding, const uint8_t *wanted, uint64_t answer);
 
-/* The plan in hand is over, by its end, by a cut or by another plan. */
+/* Takes the steps of a plan that was just given: a first plan's, or that of the plan in hand made again. */
+void take_steps(struct history *history, uint64_t answer);
+
+/* The plan in hand is over, by its end, by a cut, by another plan, or because it is given up. */
 void close_hand(struct history *history);
 
 /* It ran to its end. */
@@ -36,10 +40,14 @@ void end_hand(struct history *history);
 /* A plan was given while another was in hand: that one is replaced. */
 void replace_hand(struct history *history);
 
-/* The entry that gives the pages of the plan in hand. */
+/* The entries that make the plan in hand again, and that give its pages. */
+enum asked plan_asked(const struct hand *hand);
 enum asked page_asked(const struct hand *hand);
 
-/* Asks for the page of a step of the plan in hand, from the snapshot of that plan. */
+/* A call with what the first plan in hand was made from, and with its failed steps. */
+struct request request_again(const struct hand *hand, enum asked asked);
+
+/* Asks for the page of a step of the plan in hand. */
 uint64_t ask_page(struct history *history, uint64_t step, enum flaw flaw);
 
 /* The page that the next step, a write, puts down. */

@@ -1,6 +1,6 @@
 /*
- * The simulator of power cuts: runs histories, each with events drawn from its seed (history.h), and checks
- * demand 3 after every event.
+ * The simulator of power cuts and failed steps: runs histories, each with events drawn from its seed (history.h), and
+ * checks demand 3 after every event.
  *
  *	histories [seed [histories]]
  *
@@ -23,7 +23,7 @@
 
 enum {
 	SEED = 20240229,
-	HISTORIES = 2000,	/* the fixed number */
+	HISTORIES = 3000,	/* the fixed number */
 	PROGRESS = 10,		/* a line is printed after so many seconds */
 };
 

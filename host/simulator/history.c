@@ -8,6 +8,7 @@
 #include "draw.h"
 #include "events.h"
 #include "hand.h"
+#include "reamsickle.h"
 #include "rig.h"
 
 /* The rule that was broken, or NULL. */
@@ -41,29 +42,58 @@ static void draw_event(struct history *history, const struct likely *likely)
 	likely->happen(history);
 }
 
-/* The events within a plan, beside its next step, done; and those with no plan in hand, on a settled pair and
- * on another. */
+/* The events within a plan, beside its next step, done or failed; and those with no plan in hand, on a settled pair
+ * and on another. */
 static const struct likely within[] = {
 	{ 12, cut_in_step }, { 3, cut_between_steps }, { 2, plan_recovery }, { 2, plan_update },
-	{ 2, refuse_arguments }, { 2, refuse_step }, { 0, NULL },
+	{ 2, refuse_arguments }, { 2, refuse_step }, { 2, refuse_failed }, { 0, NULL },
 };
 static const struct likely without_settled[] = {
-	{ 14, plan_update }, { 3, plan_recovery }, { 1, refuse_arguments }, { 1, step_none_left },
-	{ 1, cut_none_left }, { 0, NULL },
+	{ 14, plan_update }, { 3, plan_recovery }, { 1, refuse_arguments }, { 1, refuse_failed },
+	{ 1, step_none_left }, { 1, cut_none_left }, { 0, NULL },
 };
 static const struct likely without_unsettled[] = {
 	{ 2, plan_update }, { 12, plan_recovery }, { 1, refuse_arguments }, { 1, step_none_left },
 	{ 1, cut_none_left }, { 0, NULL },
 };
 
+/* Does the next step fail? A zero step does less often, as that ends the plan. */
+static bool draw_failure(struct history *history)
+{
+	const struct hand *hand = &history->hand;
+	const bool zero = told_step(hand, hand->next).kind == REAM_ZERO;
+
+	return draw_below(&history->state, 100) < (zero ? history->wear / 4 : history->wear);
+}
+
+/* The next event within a plan. */
+static void next_within(struct history *history)
+{
+	struct hand *hand = &history->hand;
+
+	if (hand->fate == hand->next) {
+		hand->fate = NO_FATE;
+		if (history->wear > 0 && draw_below(&history->state, 3) == 0)
+			fail_step(history);
+		else
+			draw_event(history, within);
+	} else if (hand->fate != NO_FATE) {
+		do_step(history);
+	} else if (draw_failure(history)) {
+		fail_step(history);
+	} else if (draw_below(&history->state, 100) < history->calm) {
+		do_step(history);
+	} else {
+		draw_event(history, within);
+	}
+}
+
 static void next_event(struct history *history)
 {
-	if (history->hand.holding == NOTHING)
-		draw_event(history, checker_settled(&history->region) ? without_settled : without_unsettled);
-	else if (draw_below(&history->state, 100) < history->calm)
-		do_step(history);
+	if (history->hand.holding != NOTHING)
+		next_within(history);
 	else
-		draw_event(history, within);
+		draw_event(history, checker_settled(&history->region) ? without_settled : without_unsettled);
 	checker_event(&history->checker, &history->region);
 }
 
@@ -74,7 +104,8 @@ static void note_start(struct history *history, const struct start *start)
 	static const char *const words[FILLINGS] = {
 		[FILLED_PAIR] = "of the pair", [FILLED_BLANK] = "blank", [FILLED_SENSELESS] = "senseless",
 		[FILLED_BAD] = "bad", [FILLED_UNREADABLE] = "unreadable", [FILLED_HALF_PRIMARY] = "half a primary",
-		[FILLED_HALF_MIRROR] = "half a mirror",
+		[FILLED_HALF_MIRROR] = "half a mirror", [FILLED_ZEROED] = "64 zeros",
+		[FILLED_ZEROED_UNREADABLE] = "64 zeros, unreadable", [FILLED_NEARLY_ZEROED] = "63 zeros, unreadable",
 	};
 	const uint64_t first = region_first(&history->region);
 	char blocks[EVENT_LEN] = "";
@@ -82,7 +113,7 @@ static void note_start(struct history *history, const struct start *start)
 	for (unsigned block = 0; block < start->size; block++) {
 		const size_t len = strlen(blocks);
 
-		snprintf(blocks + len, sizeof(blocks) - len, "%s%s", block == 0 ? "" : ", ",
+		snprintf(blocks + len, sizeof(blocks) - len, "%s%s", block == 0 ? "" : "; ",
 			 words[start->filling[block]]);
 	}
 	note(history, "start: N = %" PRIu64 ", version %u, primary in block %" PRIu64 ", mirror in %" PRIu64
@@ -95,7 +126,8 @@ static void count_start(struct history *history, const struct start *start)
 	static const enum tally_row rows[FILLINGS] = {
 		[FILLED_BLANK] = START_BLANK, [FILLED_SENSELESS] = START_SENSELESS, [FILLED_BAD] = START_BAD,
 		[FILLED_UNREADABLE] = START_UNREADABLE, [FILLED_HALF_PRIMARY] = START_HALF_PRIMARY,
-		[FILLED_HALF_MIRROR] = START_HALF_MIRROR,
+		[FILLED_HALF_MIRROR] = START_HALF_MIRROR, [FILLED_ZEROED] = START_ZEROED,
+		[FILLED_ZEROED_UNREADABLE] = START_ZEROED_UNREADABLE, [FILLED_NEARLY_ZEROED] = START_NEARLY_ZEROED,
 	};
 
 	count(history, START_SIZE + start->size - FEWEST_REGION_BLOCKS);
@@ -112,13 +144,15 @@ static void count_start(struct history *history, const struct start *start)
 
 static void begin(struct history *history, uint64_t seed, struct tally *tally)
 {
-	static const unsigned calms[] = { 60, 85, 97 };
+	static const unsigned wears[] = { 0, 3, 12, 40 }, calms[] = { 60, 85, 97 };
 	struct start start;
 
 	history->state = seed;
 	history->tally = tally;
 	history->events = 0;
 	history->hand.holding = NOTHING;
+	history->since = (struct since){ false, false, false };
+	history->given_up = 0;
 	history->broken = history->driver.broken = NULL;
 	history->driver.turn = 0;
 	do
@@ -126,6 +160,7 @@ static void begin(struct history *history, uint64_t seed, struct tally *tally)
 	while (!checker_begin(&history->checker, &history->region));
 	note_start(history, &start);
 	count_start(history, &start);
+	history->wear = wears[draw_below(&history->state, 4)];
 	history->calm = calms[draw_below(&history->state, 3)];
 }
 
@@ -136,7 +171,7 @@ bool history_run(struct history *history, uint64_t seed, struct tally *tally)
 	unsigned events;
 
 	begin(history, seed, tally);
-	events = 20 + (unsigned)draw_below(&history->state, MOST_EVENTS - 60);
+	events = 20 + (unsigned)draw_below(&history->state, MOST_EVENTS - 40);
 	while (history->events < events && !broken(history))
 		next_event(history);
 

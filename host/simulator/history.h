@@ -1,8 +1,8 @@
 /*
- * A history: a settled region, and then events drawn one after the other, as document 01 has them. Plans are
- * made and replaced, calls are refused, steps are done, and power is cut in them and between them. Plans and
- * pages are the library's (driver.h), what is left of the chip is the rig's (rig.h), and after each event the
- * checker judges (checker.h).
+ * A history: a settled region, and then events drawn one after the other, as documents 01 and 02 have them. Plans
+ * are made and replaced, calls are refused, steps are done, steps fail and the plan is made again, and power is cut in
+ * steps and between them. Plans and pages are the library's (driver.h), what is left of the chip is the rig's
+ * (rig.h), and after each event the checker judges (checker.h).
  *
  * A history follows from its seed alone, so it can be run again by itself.
  */
@@ -18,8 +18,10 @@
 #include "tally.h"
 
 enum {
-	MOST_EVENTS = 160,
+	MOST_EVENTS = 120,
 	EVENT_LEN = 240,	/* the room for the text of an event */
+	MOST_FAILED = 16,	/* the room for a plan's failed steps, each of which costs a block of the region */
+	NO_FATE = 100,		/* a step that no plan has */
 };
 
 /* What plan is in hand. One that has no step left is in hand no more. */
@@ -29,16 +31,31 @@ struct hand {
 	enum holding holding;
 	struct region snapshot;			/* what it was made from */
 	uint8_t wanted[MOST_BITMAP];		/* of an update */
+	enum tally_row found;			/* of a recovery, its case */
+	uint8_t failed[MOST_FAILED];		/* the failed steps' numbers, oldest first, .. */
+	unsigned failures;			/* .. so many */
+	bool first_failed;			/* one of them was of an update's first copy */
 	uint8_t steps[64];
 	unsigned count;				/* of its steps */
 	unsigned next;				/* the step that comes next */
+	unsigned fate;				/* at this step something else happens; or NO_FATE */
+};
+
+/* What happened since the last update was planned. */
+struct since {
+	bool update_failed;	/* a step of it failed */
+	bool update_given_up;
+	bool recovery_failed;	/* a step of a recovery failed */
 };
 
 struct history {
 	uint64_t state;		/* of draw() */
-	unsigned calm;		/* of a hundred events within a plan so many are its next step, done */
+	unsigned wear;		/* of a hundred events within a plan in so many its next step fails; .. */
+	unsigned calm;		/* .. of a hundred others so many are its next step, done */
 	struct region region;	/* the chip */
 	struct hand hand;
+	struct since since;
+	unsigned given_up;	/* the refusal for which the last plan was given up, until another is given; or 0 */
 	struct driver driver;
 	struct checker checker;
 	struct tally *tally;

@@ -28,6 +28,7 @@ static void run(struct test *test, struct scene *scene)
 	test_sizes(test, scene);
 	test_update(test, scene);
 	test_steps(test, scene);
+	test_failed(test, scene);
 	test_drawn(test, scene);
 	test_header(test, scene);
 	test_arguments(test, scene);

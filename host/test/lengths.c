@@ -6,13 +6,13 @@
 /* Makes the call that is set up, with lengths told in place of the named ones. */
 static void expect_judged(struct test *test, const size_t *told)
 {
-	const unsigned buffers = entries[test->call.index].buffers;
+	const enum entry_index index = test->call.index;
 	bool as_named = true;
 
-	for (unsigned i = 0; i < buffers; i++) {
-		if (told[i] != test->call.len[i])
+	for (unsigned i = 0; i < entries[index].buffers; i++) {
+		if (told[i] != test->call.len[i] && has_length(index, i))
 			as_named = false;
-		test->call.len[i] = told[i];
+		test->call.len[i] = has_length(index, i) ? told[i] : lent_held(told[i]);
 	}
 	call_compare(test);
 	expect(test, (ream_refusal(test->answer) == REAM_LENGTH) == !as_named,

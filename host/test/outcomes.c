@@ -1,4 +1,4 @@
-/* What document 01 says of a region made to order. */
+/* What the documents say of a region made to order. */
 #include "outcomes.h"
 
 #include <string.h>
@@ -14,14 +14,6 @@ static bool is_good(enum role role, enum kind kind)
 		return role == GOOD_MIRROR;
 	return role == GOOD_PRIMARY || role == MARKED_PRIMARY;
 }
-
-/* A plan: the copies that it makes, one after the other. */
-struct plan {
-	uint8_t version;
-	unsigned copies;
-	enum kind kind[KINDS];
-	unsigned block[KINDS];	/* of the region */
-};
 
 /* What is to be expected of a cast. */
 struct outcome {
@@ -84,7 +76,7 @@ static void outcome_of_one(struct outcome *outcome, struct scene *scene, const s
 
 static struct outcome outcome_of(struct scene *scene, const struct cast *cast)
 {
-	struct outcome outcome = { REAM_OK, REAM_OK, { 0, 0 }, { 0, 0, { PRIMARY, PRIMARY }, { 0, 0 } } };
+	struct outcome outcome = { .reading = REAM_OK, .recovery = REAM_OK };
 	unsigned good[KINDS] = { 0, 0 };
 
 	for (unsigned block = 0; block < cast->chip.size; block++) {
@@ -133,6 +125,83 @@ static struct plan update_of(struct scene *scene, const struct cast *cast, const
 	return plan;
 }
 
+/* A refusal, or a plan beside the good copies of an outcome. */
+static struct planned planned_beside(const struct outcome *outcome, unsigned refusal, struct plan plan)
+{
+	struct planned planned = { .refusal = refusal, .plan = plan };
+
+	for (unsigned kind = 0; kind < KINDS; kind++)
+		planned.stands[kind] = outcome->block[kind];
+	for (unsigned copy = 0; copy < plan.copies; copy++) {
+		planned.makes[plan.kind[copy]] = true;
+		planned.stands[plan.kind[copy]] = plan.block[copy];
+	}
+	return planned;
+}
+
+static struct planned update_planned(struct scene *scene, const struct cast *cast, const struct outcome *outcome)
+{
+	if (outcome->reading != REAM_OK)
+		return planned_beside(outcome, outcome->reading, outcome->plan);
+	return planned_beside(outcome, REAM_OK, update_of(scene, cast, outcome));
+}
+
+struct planned planned_of(struct scene *scene, const struct cast *cast, enum entry_index index)
+{
+	const struct outcome outcome = outcome_of(scene, cast);
+
+	if (index == UPDATE_PLAN)
+		return update_planned(scene, cast, &outcome);
+	return planned_beside(&outcome, outcome.recovery, outcome.plan);
+}
+
+/* ---- failed steps */
+
+unsigned plan_steps(const struct plan *plan, unsigned pages)
+{
+	return (plan->zeroes ? 1 : 0) + plan->copies * (pages + 1);
+}
+
+/* The block of a copy of the plan failed: that copy goes elsewhere, and those before it are done. The last block
+ * that will do is the highest. */
+static void copy_fail(struct planned *planned, const struct cast *cast, unsigned copy)
+{
+	struct plan *plan = &planned->plan;
+	const enum kind kind = plan->kind[copy];
+	const unsigned other = planned->stands[kind == PRIMARY ? MIRROR : PRIMARY];
+	unsigned target = cast->chip.size;
+
+	plan->zeroes = true;
+	plan->zeroed = plan->block[copy];
+	planned->failed[plan->zeroed] = true;
+	for (unsigned block = 0; block < cast->chip.size; block++)
+		if (block != other && cast->role[block] != MARKED && !planned->failed[block])
+			target = block;
+	if (target == cast->chip.size) {
+		planned->refusal = REAM_NO_TARGET;
+		return;
+	}
+	plan->copies -= copy;
+	memmove(plan->kind, plan->kind + copy, plan->copies * sizeof(plan->kind[0]));
+	memmove(plan->block, plan->block + copy, plan->copies * sizeof(plan->block[0]));
+	plan->block[0] = planned->stands[kind] = target;
+}
+
+void planned_fail(struct planned *planned, const struct cast *cast, uint8_t number)
+{
+	const unsigned pages = ream_table_pages(cast->chip.n);
+	const unsigned zeros = planned->plan.zeroes ? 1 : 0;
+
+	if (planned->refusal != REAM_OK)
+		return;
+	if (number >= plan_steps(&planned->plan, pages))
+		planned->refusal = REAM_RANGE;
+	else if (number < zeros)
+		planned->refusal = REAM_ZERO_FAILED;
+	else
+		copy_fail(planned, cast, (number - zeros) / (pages + 1));
+}
+
 /* ---- expectations */
 
 /* The last call read a settled pair. */
@@ -158,19 +227,22 @@ static void expect_step(struct test *test, const uint8_t *bytes, unsigned kind, 
 	expect(test, step.page == page, "a step's page");
 }
 
-/* The last call gave this plan: for each copy its block is erased, then its pages are written in rising
- * order. Bytes past the last step are as they were lent. */
+/* The last call gave this plan: zeros if there are any, then for each copy its block is erased and its pages are
+ * written in rising order. Bytes past the last step are as they were lent. */
 static void expect_plan(struct test *test, const struct region *region, const struct plan *plan)
 {
-	const unsigned buffer = test->call.index == UPDATE_PLAN ? 3 : 2;
-	const unsigned count = plan->copies * (region->pages + 1);
+	const unsigned buffer = entries[test->call.index].buffers - 1;
 	const uint8_t *steps = call_left(test, buffer);
 	const uint8_t *at = steps;
 
 	expect(test, ream_refusal(test->answer) == REAM_OK, "a plan is given");
 	expect(test, ream_version(test->answer) == plan->version, "the plan's version");
-	expect(test, ream_step_count(test->answer) == count, "0, P + 1 or 2P + 2 steps");
+	expect(test, ream_step_count(test->answer) == plan_steps(plan, region->pages), "the number of steps");
 	expect(test, test->answer >> 24 == 0, "nothing in the bits above");
+	if (plan->zeroes) {
+		expect_step(test, at, REAM_ZERO, region_first(region) + plan->zeroed, 0);
+		at += REAM_STEP_SIZE;
+	}
 	for (unsigned copy = 0; copy < plan->copies; copy++) {
 		const uint64_t block = region_first(region) + plan->block[copy];
 
@@ -190,7 +262,7 @@ static void expect_plan(struct test *test, const struct region *region, const st
 static uint64_t draw_step_past(struct test *test)
 {
 	static const uint64_t past[] = {
-		10, 11, 15, 16, 64, 256, 65536, (uint64_t)1 << 32, (uint64_t)1 << 63, UINT64_MAX - 9,
+		11, 12, 15, 16, 64, 256, 65536, (uint64_t)1 << 32, (uint64_t)1 << 63, UINT64_MAX - 9,
 	};
 
 	return past[draw_below(&test->state, sizeof(past) / sizeof(past[0]))] + draw_below(&test->state, 10);
@@ -199,7 +271,7 @@ static uint64_t draw_step_past(struct test *test)
 static void expect_no_page(struct test *test, const struct scene *scene, enum entry_index index)
 {
 	scene_call(test, index, scene);
-	expect_answer(test, REAM_RANGE, "a step past the plan's end, or of an erase, is refused");
+	expect_answer(test, REAM_RANGE, "a step past the plan's end, of an erase or of zeros is refused");
 }
 
 static void expect_page(struct test *test, const struct scene *scene, enum entry_index index, const uint8_t *page)
@@ -210,11 +282,16 @@ static void expect_page(struct test *test, const struct scene *scene, enum entry
 }
 
 /* The pages of this plan, which makes scene->made, step by step. */
-static void expect_pages(struct test *test, struct scene *scene, enum entry_index index, const struct plan *plan)
+static void expect_plan_pages(struct test *test, struct scene *scene, enum entry_index index,
+			      const struct plan *plan)
 {
 	uint8_t bytes[PAGE_BYTES];
 
 	scene->step = 0;
+	if (plan->zeroes) {
+		expect_no_page(test, scene, index);
+		scene->step++;
+	}
 	for (unsigned copy = 0; copy < plan->copies; copy++) {
 		expect_no_page(test, scene, index);
 		scene->step++;
@@ -233,67 +310,87 @@ static void expect_pages(struct test *test, struct scene *scene, enum entry_inde
 static void expect_pages_refused(struct test *test, struct scene *scene, enum entry_index index,
 				 unsigned refusal)
 {
-	scene->step = draw_below(&test->state, 2) == 0 ? draw_below(&test->state, 11) : draw_step_past(test);
+	scene->step = draw_below(&test->state, 2) == 0 ? draw_below(&test->state, 12) : draw_step_past(test);
 	scene_call(test, index, scene);
 	expect_answer(test, refusal, "the refusal of a page");
 }
 
-/* The last call planned: it gave this plan, or was refused with this number. So it is with the pages. */
-static void expect_planned(struct test *test, struct scene *scene, enum entry_index page_index, unsigned refusal,
-			   const struct plan *plan)
+void expect_planned(struct test *test, const struct scene *scene, enum entry_index index,
+		    const struct planned *planned)
 {
-	if (refusal == REAM_OK) {
-		expect_plan(test, &scene->region, plan);
-		expect_pages(test, scene, page_index, plan);
-	} else {
-		expect_answer(test, refusal, "the refusal of a plan");
-		expect_pages_refused(test, scene, page_index, refusal);
-	}
+	scene_call(test, index, scene);
+	if (planned->refusal == REAM_OK)
+		expect_plan(test, &scene->region, &planned->plan);
+	else
+		expect_answer(test, planned->refusal, "the refusal of a plan");
 }
 
-/* Gives the plan there is to carry out: an update's of a settled pair, otherwise recovery's. */
-static struct plan expect_outcome(struct test *test, struct scene *scene, const struct cast *cast,
-				  const struct outcome *outcome)
+void expect_pages(struct test *test, struct scene *scene, enum entry_index index, const struct planned *planned)
 {
-	struct plan plan = outcome->plan;
+	if (planned->refusal == REAM_OK)
+		expect_plan_pages(test, scene, index, &planned->plan);
+	else
+		expect_pages_refused(test, scene, index, planned->refusal);
+}
+
+/* A block that failed, once its zeros are written: how its first page then reads, and its data, may be anything. */
+static void write_zeros(struct test *test, struct region *region, unsigned block)
+{
+	memset(region_oob(region, block, 0), 0, PAGE_OOB);
+	draw_bytes(&test->state, region_data(region, block, 0), draw_below(&test->state, 2) * PAGE_DATA);
+	*region_status(region, block, 0) = (uint8_t)draw_below(&test->state, 2);
+}
+
+void expect_carried_out(struct test *test, struct scene *scene, const struct cast *cast,
+			const struct planned *planned)
+{
+	const struct plan nothing = { .version = planned->plan.version };
+
+	for (unsigned block = 0; block < cast->chip.size; block++)
+		if (planned->failed[block])
+			write_zeros(test, &scene->region, block);
+	for (unsigned kind = 0; kind < KINDS; kind++)
+		if (planned->makes[kind])
+			region_copy(&scene->region, planned->stands[kind], (enum kind)kind, planned->plan.version,
+				    scene->made);
+	scene->failed_len = 0;
+	scene_call(test, TABLE_READ, scene);
+	expect_table(test, cast->chip, planned->plan.version, planned->stands, scene->made);
+	scene_call(test, RECOVERY_PLAN, scene);
+	expect_plan(test, &scene->region, &nothing);
+}
+
+/* Gives what planning comes to that there is to carry out. */
+static struct planned expect_outcome(struct test *test, struct scene *scene, const struct cast *cast)
+{
+	const struct outcome outcome = outcome_of(scene, cast);
+	const struct planned recovery = planned_beside(&outcome, outcome.recovery, outcome.plan);
+	struct planned update;
 
 	scene_call(test, TABLE_READ, scene);
-	if (outcome->reading == REAM_OK)
-		expect_table(test, cast->chip, plan.version, outcome->block, scene->table[PRIMARY]);
+	if (outcome.reading == REAM_OK)
+		expect_table(test, cast->chip, outcome.plan.version, outcome.block, scene->table[PRIMARY]);
 	else
-		expect_answer(test, outcome->reading, "the refusal of reading");
+		expect_answer(test, outcome.reading, "the refusal of reading");
 
-	scene_call(test, RECOVERY_PLAN, scene);
-	expect_planned(test, scene, RECOVERY_PAGE, outcome->recovery, &plan);
+	expect_planned(test, scene, RECOVERY_PLAN, &recovery);
+	expect_pages(test, scene, RECOVERY_PAGE, &recovery);
 
-	scene_call(test, UPDATE_PLAN, scene);
-	if (outcome->reading == REAM_OK)
-		plan = update_of(scene, cast, outcome);
-	expect_planned(test, scene, UPDATE_PAGE, outcome->reading, &plan);
-	return plan;
+	update = update_planned(scene, cast, &outcome);
+	expect_planned(test, scene, UPDATE_PLAN, &update);
+	expect_pages(test, scene, UPDATE_PAGE, &update);
+	return outcome.reading == REAM_OK ? update : recovery;
 }
 
 void expect_cast(struct test *test, struct scene *scene, const struct cast *cast)
 {
-	const struct outcome outcome = outcome_of(scene, cast);
-
-	expect_outcome(test, scene, cast, &outcome);
+	expect_outcome(test, scene, cast);
 }
 
 void expect_cast_carried_out(struct test *test, struct scene *scene, const struct cast *cast)
 {
-	struct outcome outcome = outcome_of(scene, cast);
-	struct plan plan = expect_outcome(test, scene, cast, &outcome);
+	const struct planned planned = expect_outcome(test, scene, cast);
 
-	if (outcome.recovery != REAM_OK)
-		return;
-	for (unsigned copy = 0; copy < plan.copies; copy++) {
-		region_copy(&scene->region, plan.block[copy], plan.kind[copy], plan.version, scene->made);
-		outcome.block[plan.kind[copy]] = plan.block[copy];
-	}
-	plan.copies = 0;
-	scene_call(test, TABLE_READ, scene);
-	expect_table(test, cast->chip, plan.version, outcome.block, scene->made);
-	scene_call(test, RECOVERY_PLAN, scene);
-	expect_plan(test, &scene->region, &plan);
+	if (planned.refusal == REAM_OK)
+		expect_carried_out(test, scene, cast, &planned);
 }

@@ -174,6 +174,30 @@ static void mark(struct test *test, struct scene *scene, unsigned block, const s
 	oob[0] = 0;
 }
 
+/* A block with 64 zeros in the OOB of its first page, over a copy or over a blank page, read well or not. */
+static void zero(struct test *test, struct scene *scene, unsigned block, const struct cast *cast)
+{
+	struct region *region = &scene->region;
+
+	if (draw_below(&test->state, 2) == 0)
+		region_copy(region, block, MIRROR, cast->version[MIRROR], scene->table[MIRROR]);
+	memset(region_oob(region, block, 0), 0, PAGE_OOB);
+	*region_status(region, block, 0) = (uint8_t)draw_below(&test->state, 2);
+}
+
+/* A block with a mark on an unreadable first page, or with zeros there that are fewer than 64. */
+static void mark_unreadable(struct test *test, struct scene *scene, unsigned block, const struct cast *cast)
+{
+	uint8_t *oob = region_oob(&scene->region, block, 0);
+
+	mark(test, scene, block, cast);
+	if (draw_below(&test->state, 2) == 0) {
+		memset(oob, 0, PAGE_OOB);
+		oob[draw_below(&test->state, PAGE_OOB)] = (uint8_t)(1 + draw_below(&test->state, 255));
+	}
+	*region_status(&scene->region, block, 0) = 1;
+}
+
 static void play(struct test *test, struct scene *scene, unsigned block, const struct cast *cast)
 {
 	const enum role role = cast->role[block];
@@ -192,15 +216,17 @@ static void play(struct test *test, struct scene *scene, unsigned block, const s
 	case BLANK:
 		break;
 	case MARKED:
-		mark(test, scene, block, cast);
+		if (draw_below(&test->state, 2) == 0)
+			mark(test, scene, block, cast);
+		else
+			zero(test, scene, block, cast);
 		break;
 	case MARKED_UNREADABLE:
-		mark(test, scene, block, cast);
-		*region_status(region, block, 0) = 1;
+		mark_unreadable(test, scene, block, cast);
 		break;
 	case MARKED_LATER:
 		for (unsigned page = 1; page < region->pages; page++)
-			region_oob(region, block, page)[0] = 0;
+			memset(region_oob(region, block, page), 0, draw_below(&test->state, 2) == 0 ? 1 : PAGE_OOB);
 		break;
 	case SPOILT_PRIMARY:
 	case SPOILT_MIRROR:
@@ -214,6 +240,7 @@ static void play(struct test *test, struct scene *scene, unsigned block, const s
 
 void scene_rebuild(struct test *test, struct scene *scene, const struct cast *cast)
 {
+	scene->failed_len = 0;
 	scene->step = 1;
 	region_begin(&scene->region, cast->chip.n, cast->chip.size);
 	for (unsigned block = 0; block < cast->chip.size; block++)
@@ -257,6 +284,17 @@ bool gives_page(enum entry_index index)
 	return has_number(index, "step");
 }
 
+void scene_fail(struct scene *scene, const uint8_t *failed, size_t len)
+{
+	memcpy(scene->failed, failed, len);
+	scene->failed_len = len;
+}
+
+void scene_fail_too(struct scene *scene, uint8_t number)
+{
+	scene->failed[scene->failed_len++] = number;
+}
+
 void scene_set_up(struct test *test, enum entry_index index, const void *inputs)
 {
 	const struct scene *scene = inputs;
@@ -267,6 +305,7 @@ void scene_set_up(struct test *test, enum entry_index index, const void *inputs)
 	call_lend_named(test, "image", region->image, region_image_len(region));
 	call_lend_named(test, "status", region->status, region_status_len(region));
 	call_lend_named(test, "wanted", scene->wanted, (size_t)region->n / 4);
+	call_lend_named(test, "failed", scene->failed, scene->failed_len);
 	call_set_named(test, "step", scene->step);
 }
 

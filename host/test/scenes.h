@@ -17,10 +17,10 @@ enum role {
 	GOOD_PRIMARY,
 	GOOD_MIRROR,
 	MARKED_PRIMARY,		/* good too: a mark beside a signature does not count */
-	MARKED,			/* readable as bad */
+	MARKED,			/* readable as bad, by its mark or by 64 zeros */
 	BLANK,
-	MARKED_UNREADABLE,	/* marked with an unreadable first page: not readable as bad */
-	MARKED_LATER,		/* marks on the pages past the first: they do not count */
+	MARKED_UNREADABLE,	/* a mark, or fewer zeros, on an unreadable first page: not readable as bad */
+	MARKED_LATER,		/* marks, or 64 zeros, on the pages past the first: they do not count */
 	SPOILT_PRIMARY,		/* a copy with one page spoilt */
 	SPOILT_MIRROR,
 	ROLES,
@@ -69,6 +69,9 @@ extern const enum entry_index region_entries[REGION_ENTRIES];
 /* Casts that are refused each in its way, and one that is not. */
 enum { TROUBLES = 12 };
 
+/* Room for lists of failed steps. */
+enum { MOST_FAILED = 1024 };
+
 /* What the large chip's entries are lent, and the tables in it. */
 struct scene {
 	struct region region;
@@ -76,6 +79,8 @@ struct scene {
 	uint8_t marks[MOST_BLOCKS];
 	uint8_t table[KINDS][MOST_BITMAP];	/* what the copies of each kind hold */
 	uint8_t made[MOST_BITMAP];		/* what a plan has to make of them */
+	uint8_t failed[MOST_FAILED];		/* the steps that failed */
+	size_t failed_len;
 	uint64_t step;				/* the step whose page is asked for */
 };
 
@@ -108,12 +113,16 @@ void scene_build(struct test *test, struct scene *scene, const struct cast *cast
 /* The same, with a wanted bitmap that changes an entry. */
 void scene_build_changing(struct test *test, struct scene *scene, const struct cast *cast);
 
-/* The region of this cast anew, from the tables as they are. The step is 1: of a plan with steps, the first
- * write. */
+/* The region of this cast anew, from the tables as they are. No step has failed. The step is 1: of a plan with
+ * steps, the first write. */
 void scene_rebuild(struct test *test, struct scene *scene, const struct cast *cast);
 
 /* Does an entry take a step's number, and give a page? */
 bool gives_page(enum entry_index index);
+
+/* Sets the scene's list of failed steps, or adds one to its end. */
+void scene_fail(struct scene *scene, const uint8_t *failed, size_t len);
+void scene_fail_too(struct scene *scene, uint8_t number);
 
 /* Draws anew every byte of the region that must not count. */
 void scene_stir(struct test *test, struct scene *scene);

@@ -191,6 +191,7 @@ static void try_region_lengths(struct test *test, struct scene *scene)
 			cast.equal = false;
 			scene_build(test, scene, &cast);
 			scene->region.status[i] = 2;
+			scene_fail_too(scene, 255);
 			scene->step = UINT64_MAX;
 			try_lengths(test, index, scene_set_up, scene);
 		}
@@ -272,18 +273,22 @@ static void try_status_bytes(struct test *test, struct scene *scene)
 /* ---- the order of the refusals */
 
 /* A call on a troubled region with a wrong N or size, a wrong length (of buffer `wrong`, if there is such a one)
- * and a wrong status byte, each or not. Where a page is asked for, the step is anything. */
+ * and a wrong status byte, each or not. The failed steps, and the step whose page is asked for, are anything. */
 static void try_ranks(struct test *test, struct scene *scene, enum entry_index index, bool wrong_chip,
 		      unsigned wrong, bool wrong_status)
 {
 	const unsigned place = (unsigned)draw_below(&test->state, region_status_len(&scene->region));
+	const bool wrong_length = wrong < entries[index].buffers && has_length(index, wrong);
 
+	scene->failed_len = 0;
+	for (uint64_t failed = draw_below(&test->state, 4); failed > 0; failed--)
+		scene_fail_too(scene, (uint8_t)(draw(&test->state) >> draw_below(&test->state, 64)));
 	scene_set_up(test, index, scene);
 	if (wrong_chip && draw_below(&test->state, 2) == 0)
 		test->call.number[0] += 1 + draw_below(&test->state, 3);
 	else if (wrong_chip)
 		test->call.number[1] = no_sizes[draw_below(&test->state, NO_SIZES)];
-	if (wrong < entries[index].buffers)
+	if (wrong_length)
 		test->call.len[wrong] -= 1;
 	if (wrong_status)
 		test->call.bytes[1][place] = 2;
@@ -291,7 +296,7 @@ static void try_ranks(struct test *test, struct scene *scene, enum entry_index i
 	call_compare(test);
 	if (wrong_chip)
 		expect_answer(test, REAM_RANGE, "N and the region's size are judged first");
-	else if (wrong < entries[index].buffers)
+	else if (wrong_length)
 		expect_answer(test, REAM_LENGTH, "then the lengths");
 	else if (wrong_status)
 		expect_answer(test, REAM_RANGE, "then the status bytes");
@@ -312,6 +317,7 @@ static void try_order(struct test *test, struct scene *scene)
 					for (unsigned others = 0; others < 4; others++)
 						try_ranks(test, scene, index, others % 2, wrong, others / 2);
 			}
+			scene->failed_len = 0;
 			expect_cast(test, scene, &cast);
 		}
 	}

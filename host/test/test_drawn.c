@@ -22,6 +22,8 @@ static void draw_page(struct test *test, struct scene *scene, unsigned block, un
 		draw_bytes(&test->state, oob + SIGNATURE, 4);
 	if (choice == 13)
 		memset(region_data(&scene->region, block, page), 0xFF, PAGE_BYTES);
+	if (draw_below(&test->state, 12) == 0)
+		memset(oob, 0, PAGE_OOB);
 	if (draw_below(&test->state, 2) == 0)
 		oob[0] = 0;
 	*region_status(&scene->region, block, page) = draw_below(&test->state, 12) == 0;
@@ -65,7 +67,9 @@ static void try_drawn_regions(struct test *test, struct scene *scene)
 			if (draw_below(&test->state, 3 * cast.chip.size) >= 8)
 				region_oob(&scene->region, block, 0)[SIGNATURE] ^= 0x80;
 		}
-		scene->step = draw_below(&test->state, 11);
+		scene->step = draw_below(&test->state, 12);
+		for (uint64_t failed = draw_below(&test->state, 4); failed > 0; failed--)
+			scene_fail_too(scene, (uint8_t)draw_below(&test->state, 12));
 		for (unsigned k = 0; k < REGION_ENTRIES; k++)
 			expect_unmoved(test, scene, region_entries[k]);
 	}

@@ -1,6 +1,6 @@
 /*
- * The header itself: its version, the sizes of buffers, entries of bitmaps, and the functions for pointers that
- * may be null, for which each such pointer is a wrong length.
+ * The header itself: its version, the sizes of buffers, entries of bitmaps, steps, the texts of refusals, and the
+ * functions for pointers that may be null, for which each such pointer is a buffer of no bytes.
  */
 #include "tests.h"
 
@@ -81,6 +81,41 @@ static void try_entries_of_bitmaps(struct test *test)
 	}
 }
 
+/* The kinds of step, and a step taken apart. */
+static void try_steps_of_plans(struct test *test)
+{
+	static const uint8_t bytes[3][REAM_STEP_SIZE] = {
+		{ 0, 0x7F, 0xF9, 0 }, { 1, 0x12, 0x34, 3 }, { 2, 0x00, 0x04, 0 },
+	};
+
+	test->trying = "the header's steps";
+	expect(test, REAM_ERASE == 0 && REAM_WRITE == 1 && REAM_ZERO == 2, "the kinds of step");
+	for (unsigned i = 0; i < 3; i++) {
+		const struct ream_step step = ream_step_get(bytes[i]);
+
+		expect(test, step.kind == i && step.block == 256u * bytes[i][1] + bytes[i][2] &&
+		       step.page == bytes[i][3], "a step's kind, block and page");
+	}
+	expect(test, REAM_STEPS_SIZE >= REAM_STEP_SIZE * 11 && REAM_FAILED_MAX == REAM_REGION_BLOCKS_MAX - 1,
+	       "room for 11 steps, and for a list of failed steps");
+}
+
+/* Each refusal has a text of its own, and no other number has. */
+static void try_texts(struct test *test)
+{
+	const char *unknown = ream_refusal_text(UINT32_MAX);
+
+	test->trying = "the header's texts";
+	expect(test, REAM_NO_TARGET == 11 && REAM_ZERO_FAILED == 12, "the last refusals are 11 and 12");
+	for (unsigned refusal = 0; refusal < 300; refusal++) {
+		const char *text = ream_refusal_text(refusal);
+
+		expect(test, (strcmp(text, unknown) == 0) == (refusal > REAM_ZERO_FAILED), "the refusals have texts");
+		for (unsigned other = 0; other < refusal && refusal <= REAM_ZERO_FAILED; other++)
+			expect(test, strcmp(text, ream_refusal_text(other)) != 0, "no two have the same");
+	}
+}
+
 /* ---- pointers that may be null */
 
 /* Of the small chip's entries. */
@@ -120,60 +155,131 @@ static void try_null_in_pages(struct test *test)
 	       "with no null pointer the checked functions are the entries");
 }
 
-/* Of the large chip's that read, plan and make a first bitmap; the chip has 12 blocks, 6 of them its region. */
+/* The large chip's entries that plan and give pages, with all lengths as named, on a chip of 12 blocks, 6 of them its
+ * region, and a list of one failed step. */
+static uint64_t update_plan(const uint8_t *image, const uint8_t *status, const uint8_t *wanted, const uint8_t *failed,
+			    uint8_t *steps)
+{
+	return ream_update_plan_checked(12, 6, image, 12672, status, 6, wanted, 3, failed, 1, steps, 64);
+}
+
+static uint64_t recovery_plan(const uint8_t *image, const uint8_t *status, const uint8_t *failed, uint8_t *steps)
+{
+	return ream_recovery_plan_checked(12, 6, image, 12672, status, 6, failed, 1, steps, 64);
+}
+
+static uint64_t update_page(const uint8_t *image, const uint8_t *status, const uint8_t *wanted, const uint8_t *failed,
+			    uint64_t step, uint8_t *page)
+{
+	return ream_update_page_checked(12, 6, image, 12672, status, 6, wanted, 3, failed, 1, step, page, 2112);
+}
+
+static uint64_t recovery_page(const uint8_t *image, const uint8_t *status, const uint8_t *failed, uint64_t step,
+			      uint8_t *page)
+{
+	return ream_recovery_page_checked(12, 6, image, 12672, status, 6, failed, 1, step, page, 2112);
+}
+
+/* Of those that read and make a first bitmap. */
 static void try_null_in_regions(struct test *test, struct scene *scene)
 {
 	const struct cast cast = cast_settled((struct chip){ 12, 6 }, 5, 0, 200);
-	const uint8_t *image = scene->region.image, *status = scene->region.status;
-	const uint8_t *marks = scene->marks, *wanted = scene->wanted;
+	const uint8_t *image = scene->region.image, *status = scene->region.status, *marks = scene->marks;
 	uint8_t bitmap[3] = { 0x5A, 0x5A, 0x5A };
-	uint8_t steps[64];
 	bool refused;
 
 	test->trying = "null pointers";
 	scene_build(test, scene, &cast);
-	memset(scene->wanted, 0xFF, 3);
-	memset(steps, 0x5A, 64);
 	refused = ream_first_bitmap_checked(12, 6, NULL, 12, bitmap, 3) == REAM_LENGTH &&
 		  ream_first_bitmap_checked(12, 6, marks, 12, NULL, 3) == REAM_LENGTH &&
 		  ream_table_read_checked(12, 6, NULL, 12672, status, 6, bitmap, 3) == REAM_LENGTH &&
 		  ream_table_read_checked(12, 6, image, 12672, NULL, 6, bitmap, 3) == REAM_LENGTH &&
-		  ream_table_read_checked(12, 6, image, 12672, status, 6, NULL, 3) == REAM_LENGTH &&
-		  ream_update_plan_checked(12, 6, NULL, 12672, status, 6, wanted, 3, steps, 64) == REAM_LENGTH &&
-		  ream_update_plan_checked(12, 6, image, 12672, NULL, 6, wanted, 3, steps, 64) == REAM_LENGTH &&
-		  ream_update_plan_checked(12, 6, image, 12672, status, 6, NULL, 3, steps, 64) == REAM_LENGTH &&
-		  ream_update_plan_checked(12, 6, image, 12672, status, 6, wanted, 3, NULL, 64) == REAM_LENGTH &&
-		  ream_recovery_plan_checked(12, 6, NULL, 12672, status, 6, steps, 64) == REAM_LENGTH &&
-		  ream_recovery_plan_checked(12, 6, image, 12672, NULL, 6, steps, 64) == REAM_LENGTH &&
-		  ream_recovery_plan_checked(12, 6, image, 12672, status, 6, NULL, 64) == REAM_LENGTH;
+		  ream_table_read_checked(12, 6, image, 12672, status, 6, NULL, 3) == REAM_LENGTH;
 	expect(test, refused, "a null pointer is refused as a wrong length");
 	refused = ream_first_bitmap_checked(4, 4, NULL, 0, NULL, 0) == REAM_RANGE &&
 		  ream_first_bitmap_checked(12, 7, NULL, 0, NULL, 0) == REAM_RANGE &&
 		  ream_table_read_checked(10, 4, NULL, 0, NULL, 0, NULL, 0) == REAM_RANGE &&
-		  ream_table_read_checked(8, 5, NULL, 0, NULL, 0, NULL, 0) == REAM_RANGE &&
-		  ream_update_plan_checked(32772, 4, NULL, 0, NULL, 0, NULL, 0, NULL, 0) == REAM_RANGE &&
-		  ream_update_plan_checked(12, 3, NULL, 0, NULL, 0, NULL, 0, NULL, 0) == REAM_RANGE &&
-		  ream_recovery_plan_checked(0, 4, NULL, 0, NULL, 0, NULL, 0) == REAM_RANGE &&
-		  ream_recovery_plan_checked(32768, 8, NULL, 0, NULL, 0, NULL, 0) == REAM_RANGE;
+		  ream_table_read_checked(8, 5, NULL, 0, NULL, 0, NULL, 0) == REAM_RANGE;
 	expect(test, refused, "a wrong number of blocks, or size of the region, is refused before a null pointer");
-	expect(test, memcmp(bitmap, "\x5A\x5A\x5A", 3) == 0 && steps[0] == 0x5A && steps[63] == 0x5A,
-	       "a call refused for a null pointer changes nothing");
+	expect(test, memcmp(bitmap, "\x5A\x5A\x5A", 3) == 0, "a call refused for a null pointer changes nothing");
 
 	expect(test, ream_table_read_checked(12, 6, image, 12672, status, 6, bitmap, 3) ==
 	       (200 << 8 | 11 << 16 | (uint64_t)6 << 32) && memcmp(bitmap, scene->table[PRIMARY], 3) == 0 &&
-	       ream_update_plan_checked(12, 6, image, 12672, status, 6, wanted, 3, steps, 64) == 200 << 8 &&
-	       ream_recovery_plan_checked(12, 6, image, 12672, status, 6, steps, 64) == 200 << 8 &&
 	       ream_first_bitmap_checked(12, 6, marks, 12, bitmap, 3) == REAM_OK &&
 	       ream_entry_get(bitmap, 7) == (marks[7] == 0 ? REAM_ENTRY_FACTORY : REAM_ENTRY_GOOD),
 	       "with no null pointer the checked functions are the entries");
 }
 
+/* Of those that plan. A null pointer in place of the list says that no step failed. */
+static void try_null_in_planning(struct test *test, struct scene *scene)
+{
+	static const uint8_t failed[1] = { 4 };
+	struct cast cast = cast_settled((struct chip){ 12, 6 }, 5, 0, 200);
+	const uint8_t *image = scene->region.image, *status = scene->region.status, *wanted = scene->wanted;
+	uint8_t steps[64];
+	bool refused;
+
+	test->trying = "null pointers in planning";
+	scene_build_changing(test, scene, &cast);
+	memset(steps, 0x5A, 64);
+	refused = update_plan(NULL, status, wanted, failed, steps) == REAM_LENGTH &&
+		  update_plan(image, NULL, wanted, failed, steps) == REAM_LENGTH &&
+		  update_plan(image, status, NULL, failed, steps) == REAM_LENGTH &&
+		  update_plan(image, status, wanted, failed, NULL) == REAM_LENGTH &&
+		  recovery_plan(NULL, status, failed, steps) == REAM_LENGTH &&
+		  recovery_plan(image, NULL, failed, steps) == REAM_LENGTH &&
+		  recovery_plan(image, status, failed, NULL) == REAM_LENGTH;
+	expect(test, refused, "a null pointer is refused as a wrong length");
+	refused = ream_update_plan_checked(32772, 4, NULL, 0, NULL, 0, NULL, 0, NULL, 0, NULL, 0) == REAM_RANGE &&
+		  ream_update_plan_checked(12, 3, NULL, 0, NULL, 0, NULL, 0, NULL, 0, NULL, 0) == REAM_RANGE &&
+		  ream_recovery_plan_checked(0, 4, NULL, 0, NULL, 0, NULL, 0, NULL, 0) == REAM_RANGE &&
+		  ream_recovery_plan_checked(32768, 8, NULL, 0, NULL, 0, NULL, 0, NULL, 0) == REAM_RANGE;
+	expect(test, refused, "a wrong number of blocks, or size of the region, is refused before a null pointer");
+	expect(test, update_plan(image, status, wanted, failed, steps) == REAM_RANGE &&
+	       recovery_plan(image, status, failed, steps) == REAM_RANGE, "4 steps, and none, have no step 4");
+	expect(test, steps[0] == 0x5A && steps[63] == 0x5A, "a refused call changes nothing");
+
+	expect(test, update_plan(image, status, wanted, NULL, steps) == (201 << 8 | 4 << 16) &&
+	       steps[0] == REAM_ERASE && steps[2] == 11 && steps[16] == 0x5A, "with no list an update's first plan");
+	expect(test, ream_update_plan_checked(12, 6, image, 12672, status, 6, wanted, 3, NULL, 0, steps, 64) ==
+	       (201 << 8 | 4 << 16), "with no list and no length too");
+	expect(test, recovery_plan(image, status, NULL, steps) == 200 << 8, "with no list a recovery's first plan");
+	cast.version[PRIMARY]++;
+	scene_rebuild(test, scene, &cast);
+	expect(test, ream_recovery_plan_checked(12, 6, image, 12672, status, 6, NULL, 0, steps, 64) ==
+	       (201 << 8 | 2 << 16), "with no list and no length too");
+}
+
+/* With no null pointer but for the list the pages are given. */
+static void expect_pages_checked(struct test *test, struct scene *scene, struct cast *cast)
+{
+	static const uint8_t failed[1] = { 0 };
+	const uint8_t *image = scene->region.image, *status = scene->region.status, *wanted = scene->wanted;
+	uint8_t page[2112], asked[2112];
+
+	region_lay_out(&scene->region, 0, MIRROR, 201, scene->wanted, asked);
+	expect(test, update_page(image, status, wanted, NULL, 3, page) == REAM_OK &&
+	       memcmp(page, asked, sizeof(page)) == 0, "with no list the page of an update's first plan");
+	expect(test, update_page(image, status, wanted, failed, 3, page) == REAM_RANGE &&
+	       update_page(image, status, wanted, failed, 4, page) == REAM_OK &&
+	       memcmp(page, asked, sizeof(page)) == 0, "with a list that of the next");
+	cast->version[PRIMARY] = 201;
+	scene_rebuild(test, scene, cast);
+	region_lay_out(&scene->region, 0, MIRROR, 201, scene->table[PRIMARY], asked);
+	expect(test, recovery_page(image, status, NULL, 1, page) == REAM_OK &&
+	       memcmp(page, asked, sizeof(page)) == 0, "with no list the page of a recovery's first plan");
+	expect(test, recovery_page(image, status, failed, 1, page) == REAM_RANGE &&
+	       recovery_page(image, status, failed, 2, page) == REAM_OK &&
+	       memcmp(page, asked, sizeof(page)) == 0, "with a list that of the next");
+}
+
 /* Of those that give pages. */
 static void try_null_in_asking(struct test *test, struct scene *scene)
 {
+	static const uint8_t failed[1] = { 0 };
 	struct cast cast = cast_settled((struct chip){ 12, 6 }, 1, 5, 200);
 	const uint8_t *image = scene->region.image, *status = scene->region.status, *wanted = scene->wanted;
-	uint8_t page[2112], asked[2112];
+	uint8_t page[2112], before[2112];
 	bool refused;
 
 	test->trying = "null pointers in asking for pages";
@@ -181,30 +287,22 @@ static void try_null_in_asking(struct test *test, struct scene *scene)
 	memcpy(scene->wanted, "\x27\xFF\xFF", 3);
 	scene_rebuild(test, scene, &cast);
 	memset(page, 0x5A, sizeof(page));
-	memset(asked, 0x5A, sizeof(asked));
-	refused = ream_update_page_checked(12, 6, NULL, 12672, status, 6, wanted, 3, 1, page, 2112) == REAM_LENGTH &&
-		  ream_update_page_checked(12, 6, image, 12672, NULL, 6, wanted, 3, 1, page, 2112) == REAM_LENGTH &&
-		  ream_update_page_checked(12, 6, image, 12672, status, 6, NULL, 3, 1, page, 2112) == REAM_LENGTH &&
-		  ream_update_page_checked(12, 6, image, 12672, status, 6, wanted, 3, 1, NULL, 2112) == REAM_LENGTH &&
-		  ream_recovery_page_checked(12, 6, NULL, 12672, status, 6, 1, page, 2112) == REAM_LENGTH &&
-		  ream_recovery_page_checked(12, 6, image, 12672, NULL, 6, 1, page, 2112) == REAM_LENGTH &&
-		  ream_recovery_page_checked(12, 6, image, 12672, status, 6, 1, NULL, 2112) == REAM_LENGTH;
+	memset(before, 0x5A, sizeof(before));
+	refused = update_page(NULL, status, wanted, failed, 1, page) == REAM_LENGTH &&
+		  update_page(image, NULL, wanted, failed, 1, page) == REAM_LENGTH &&
+		  update_page(image, status, NULL, failed, 1, page) == REAM_LENGTH &&
+		  update_page(image, status, wanted, failed, 1, NULL) == REAM_LENGTH &&
+		  recovery_page(NULL, status, failed, 1, page) == REAM_LENGTH &&
+		  recovery_page(image, NULL, failed, 1, page) == REAM_LENGTH &&
+		  recovery_page(image, status, failed, 1, NULL) == REAM_LENGTH;
 	expect(test, refused, "a null pointer is refused as a wrong length");
-	refused = ream_update_page_checked(9, 4, NULL, 0, NULL, 0, NULL, 0, 1, NULL, 0) == REAM_RANGE &&
-		  ream_update_page_checked(12, 7, NULL, 0, NULL, 0, NULL, 0, 1, NULL, 0) == REAM_RANGE &&
-		  ream_recovery_page_checked(9, 4, NULL, 0, NULL, 0, 1, NULL, 0) == REAM_RANGE &&
-		  ream_recovery_page_checked(12, 7, NULL, 0, NULL, 0, 1, NULL, 0) == REAM_RANGE;
+	refused = ream_update_page_checked(9, 4, NULL, 0, NULL, 0, NULL, 0, NULL, 0, 1, NULL, 0) == REAM_RANGE &&
+		  ream_update_page_checked(12, 7, NULL, 0, NULL, 0, NULL, 0, NULL, 0, 1, NULL, 0) == REAM_RANGE &&
+		  ream_recovery_page_checked(9, 4, NULL, 0, NULL, 0, NULL, 0, 1, NULL, 0) == REAM_RANGE &&
+		  ream_recovery_page_checked(12, 7, NULL, 0, NULL, 0, NULL, 0, 1, NULL, 0) == REAM_RANGE;
 	expect(test, refused, "a wrong number of blocks, or size of the region, is refused before a null pointer");
-	expect(test, memcmp(page, asked, sizeof(page)) == 0, "a call refused for a null pointer changes nothing");
-
-	region_lay_out(&scene->region, 0, MIRROR, 201, scene->wanted, asked);
-	expect(test, ream_update_page_checked(12, 6, image, 12672, status, 6, wanted, 3, 3, page, 2112) == REAM_OK &&
-	       memcmp(page, asked, sizeof(page)) == 0, "with no null pointer an update's page is given");
-	cast.version[PRIMARY] = 201;
-	scene_rebuild(test, scene, &cast);
-	region_lay_out(&scene->region, 0, MIRROR, 201, scene->table[PRIMARY], asked);
-	expect(test, ream_recovery_page_checked(12, 6, image, 12672, status, 6, 1, page, 2112) == REAM_OK &&
-	       memcmp(page, asked, sizeof(page)) == 0, "with no null pointer a recovery's page is given");
+	expect(test, memcmp(page, before, sizeof(page)) == 0, "a call refused for a null pointer changes nothing");
+	expect_pages_checked(test, scene, &cast);
 }
 
 void test_header(struct test *test, struct scene *scene)
@@ -212,7 +310,10 @@ void test_header(struct test *test, struct scene *scene)
 	try_version(test);
 	try_sizes_of_buffers(test);
 	try_entries_of_bitmaps(test);
+	try_steps_of_plans(test);
+	try_texts(test);
 	try_null_in_pages(test);
 	try_null_in_regions(test, scene);
+	try_null_in_planning(test, scene);
 	try_null_in_asking(test, scene);
 }

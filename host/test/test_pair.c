@@ -26,7 +26,7 @@ static void try_version_examples(struct test *test, struct scene *scene)
 		scene_call(test, RECOVERY_PLAN, scene);
 		expect_answer(test, (uint64_t)cast.version[PRIMARY] << 8 | 2 << 16,
 			      "two steps, the primary's version");
-		expect(test, memcmp(call_left(test, 2), "\x00\x00\x06\x00\x01\x00\x06\x00", 8) == 0,
+		expect(test, memcmp(call_left(test, 3), "\x00\x00\x06\x00\x01\x00\x06\x00", 8) == 0,
 		       "the mirror is erased and written");
 		scene_call(test, TABLE_READ, scene);
 		expect_answer(test, REAM_NOT_SETTLED, "d = 1 is not settled");
@@ -161,7 +161,7 @@ static void expect_merged(struct test *test, struct scene *scene, size_t i, uint
 		scene->step = copy * (pages + 1) + 1 + i / PAGE_DATA;
 		scene_call(test, RECOVERY_PAGE, scene);
 		expect_answer(test, REAM_OK, "the page of a merge is given");
-		expect(test, call_left(test, 2)[i % PAGE_DATA] == merged, "the page of a merge has the AND");
+		expect(test, call_left(test, 3)[i % PAGE_DATA] == merged, "the page of a merge has the AND");
 	}
 	scene_call(test, UPDATE_PLAN, scene);
 	expect_answer(test, REAM_NOT_SETTLED, "different bitmaps are not settled");

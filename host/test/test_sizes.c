@@ -33,7 +33,7 @@ static void try_target(struct test *test, struct scene *scene, struct chip chip,
 	if (target == 0)
 		expect_answer(test, REAM_NO_TARGET, "with all other blocks bad there is no target");
 	else
-		expect(test, ream_step_get(call_left(test, 2)).block == target, "the highest block that will do");
+		expect(test, ream_step_get(call_left(test, 3)).block == target, "the highest block that will do");
 	expect_cast_carried_out(test, scene, &cast);
 }
 

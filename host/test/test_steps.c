@@ -7,7 +7,7 @@
 #include "scenes.h"
 
 /* Asks for pages by numbers from 0 on, and by such with a bit set that a cut to fewer bits would lose: the
- * plan's writes are given, and nothing else. */
+ * plan's writes are given, and nothing else; with the scene's list of failed steps. */
 static void expect_steps(struct test *test, struct scene *scene, enum entry_index plan_index,
 			 enum entry_index page_index)
 {
@@ -27,7 +27,21 @@ static void expect_steps(struct test *test, struct scene *scene, enum entry_inde
 		else if (scene->step < ream_step_count(plan) && steps[4 * scene->step] == REAM_WRITE)
 			expect_answer(test, REAM_OK, "the page of a write");
 		else
-			expect_answer(test, REAM_RANGE, "no page for an erase, nor past the plan's end");
+			expect_answer(test, REAM_RANGE, "no page for an erase or zeros, nor past the plan's end");
+	}
+}
+
+/* With no failed step, with one of each copy, with two, and with a zero step. */
+static void expect_steps_failed(struct test *test, struct scene *scene, enum entry_index plan_index,
+				enum entry_index page_index)
+{
+	const uint8_t second = (uint8_t)(scene->region.pages + 1);
+	const uint8_t lists[5][2] = { { 0, 0 }, { 1, 0 }, { second, 0 }, { 0, 1 }, { 1, 0 } };
+	static const size_t len[5] = { 0, 1, 1, 2, 2 };
+
+	for (unsigned i = 0; i < 5; i++) {
+		scene_fail(scene, lists[i], len[i]);
+		expect_steps(test, scene, plan_index, page_index);
 	}
 }
 
@@ -41,10 +55,10 @@ static void try_steps(struct test *test, struct scene *scene)
 			if (left_out(test))
 				continue;
 			scene_build_changing(test, scene, &cast);
-			expect_steps(test, scene, RECOVERY_PLAN, RECOVERY_PAGE);
-			expect_steps(test, scene, UPDATE_PLAN, UPDATE_PAGE);
+			expect_steps_failed(test, scene, RECOVERY_PLAN, RECOVERY_PAGE);
+			expect_steps_failed(test, scene, UPDATE_PLAN, UPDATE_PAGE);
 			memset(scene->wanted, 0xFF, (size_t)cast.chip.n / 4);
-			expect_steps(test, scene, UPDATE_PLAN, UPDATE_PAGE);
+			expect_steps_failed(test, scene, UPDATE_PLAN, UPDATE_PAGE);
 		}
 	}
 }

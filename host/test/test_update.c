@@ -78,7 +78,7 @@ static void try_all_bytes(struct test *test, struct scene *scene)
 		scene->step = pair % 2 == 0 ? 1 : 3;
 		scene_call(test, UPDATE_PAGE, scene);
 		expect_answer(test, made != old ? REAM_OK : REAM_RANGE, "an update that changes nothing has no page");
-		page = call_left(test, 3);
+		page = call_left(test, 4);
 		expect(test, made == old || (page[byte] == made && page[1 - byte] == 0x1B), "the page's bytes");
 	}
 }
@@ -143,7 +143,7 @@ static void try_each_byte(struct test *test, struct scene *scene)
 		expect_answer(test, 18 << 8 | 10 << 16, "ten steps and the next version");
 		scene->step = 1 + i / PAGE_DATA;
 		scene_call(test, UPDATE_PAGE, scene);
-		expect(test, call_left(test, 3)[i % PAGE_DATA] == scene->wanted[i], "the entry in its page");
+		expect(test, call_left(test, 4)[i % PAGE_DATA] == scene->wanted[i], "the entry in its page");
 		scene->wanted[i] = 0xFF;
 	}
 }

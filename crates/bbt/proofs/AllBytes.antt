@@ -14,19 +14,23 @@ use lib.Seq.{getD-drop}
 use Rattle.bits.specs.Bytes.{wordBytes}
 use Rattle.chip.specs.Large.{pagesOf}
 use Rattle.chip.specs.declared.LargeChip.{LargeChip}
+use Rattle.chip.specs.declared.Refusal.the-variants.{Length}
 use Rattle.bbt.specs.declared.Kind.{Kind}
+use Rattle.bbt.specs.declared.Kind.the-variants.{Mirror}
 use Rattle.bbt.specs.Copies.{Table, pagePart, parts, table}
 use Rattle.bbt.specs.Entries.{updatedByte, updatedBytes, andBytes}
-use Rattle.bbt.specs.Histories.{Snapshot}
+use Rattle.bbt.specs.Failures.{otherBlock, moved, movedTo, blockFails, stepFails, failure, failures}
+use Rattle.bbt.specs.Histories.{Snapshot, answer}
 use Rattle.bbt.specs.Images.{chunk, imageData, imageTail, partImage, pageImage}
-use Rattle.bbt.specs.Pages.{marked, unreadable, reads, pageBytes, kindOf, versionOf, kindWord, partLength, badPage, pageOf, seen}
+use Rattle.bbt.specs.Lent.{callLent}
+use Rattle.bbt.specs.Pages.{View, marked, unreadable, reads, pageBytes, kindOf, versionOf, kindWord, partLength, badPage, pageOf, seen}
 use Rattle.bbt.specs.Pairs.{same, Case, no-pair, alone, settled, merging, differing, pairCase}
-use Rattle.bbt.specs.Plans.{Step, erase, write, Plan, idle, single, double, writes, copySteps, stepsOf, Answer, refuse, plan, readCase, reading, nextVersion, updated, updateFrom, update, target, otherKind, recoverTo, anded, recoverNewer, recoverCase, recovery, Call, for-update, for-recovery, planByRules}
+use Rattle.bbt.specs.Plans.{Step, erase, write, zeros, Job, idle, single, double, Plan, writes, copySteps, jobSteps, zeroFirst, stepsOf, stepAt, Answer, refuse, plan, readCase, reading, nextVersion, updated, updateFrom, update, target, otherKind, recoverTo, anded, recoverNewer, recoverCase, recovery, Call, for-update, for-recovery, planByRules}
 use Rattle.bbt.specs.Possible.{Bytes}
 use Rattle.bbt.specs.Regions.{Region, view, statusAt, bytesAt}
 use Rattle.bbt.proofs.LeftPages.{Judged, version-byte, length-imageData, chunk-length}
 use Rattle.bbt.proofs.Numbering.{stepsFrom, Tracked}
-use Rattle.bbt.proofs.Planning.{plan-asked}
+use Rattle.bbt.proofs.Planning.{inForce, plan-is}
 use Rattle.bbt.proofs.Searches.{no-confusion}
 use Rattle.bbt.proofs.Updating.{updated-below}
 
@@ -42,10 +46,13 @@ pub bytes-append : (l m : List ℕ) → AllBytes l → AllBytes m → AllBytes (
 bytes-append [] m f g = g
 bytes-append (x ∷ xs) m f g = bytes-cons x (xs ++ m) (f 0) (bytes-append xs m (λ i. f (suc i)) g)
 
+pub below-replicate : (n v d : ℕ) → v < d → (i : ℕ) → getD (replicate n v) i 0 < d
+below-replicate zero v d h i = omega arith
+below-replicate (suc n) v d h zero = h
+below-replicate (suc n) v d h (suc i) = below-replicate n v d h i
+
 pub bytes-replicate : (n : ℕ) → AllBytes (replicate n 255)
-bytes-replicate zero i = lit< tt
-bytes-replicate (suc n) zero = lit< tt
-bytes-replicate (suc n) (suc i) = bytes-replicate n i
+bytes-replicate n = below-replicate n 255 256 (lit< tt)
 
 pub bytes-take : (n : ℕ) (l : List ℕ) → AllBytes l → AllBytes (take n l)
 bytes-take zero l f i = lit< tt
@@ -145,14 +152,14 @@ bytes-updated-table o w h = go (same (updatedBytes (o .bitmap) w) (o .bitmap))
     go true = h
     go false = record { version-below = omega arith; bitmap-bytes = bytes-updated (o .bitmap) w }
 
-abbrev PlanOfBytes : Plan → Type 0
-PlanOfBytes (idle v) = Unit {0}
-PlanOfBytes (single k b g t) = TableOfBytes t
-PlanOfBytes (double p m t) = TableOfBytes t
+abbrev JobOfBytes : Job → Type 0
+JobOfBytes (idle v) = Unit {0}
+JobOfBytes (single k b g t) = TableOfBytes t
+JobOfBytes (double p m t) = TableOfBytes t
 
 abbrev AnswerOfBytes : Answer → Type 0
 AnswerOfBytes (refuse x) = Unit {0}
-AnswerOfBytes (plan q) = PlanOfBytes q
+AnswerOfBytes (plan q) = JobOfBytes (q .job)
 
 module _ {chip : LargeChip} (r : Region chip) where
   bytes-recovery : (c : Case) → AnswerOfBytes (recoverCase chip (view r) c)
@@ -177,7 +184,7 @@ module _ {chip : LargeChip} (r : Region chip) where
       o : Table
       o = table (pagesOf chip) (view r) p
 
-      go : (t : Bool) → PlanOfBytes (cond t (idle (o .version)) (double p m (updated o w)))
+      go : (t : Bool) → JobOfBytes (cond t (idle (o .version)) (double p m (updated o w)))
       go true = tt
       go false = bytes-updated-table o w (bytes-table r p)
   bytes-update w (merging p m) = tt
@@ -188,10 +195,52 @@ module _ {chip : LargeChip} (r : Region chip) where
   bytes-first (for-update w) = bytes-update w (pairCase chip (view r))
   bytes-first for-recovery = bytes-recovery (pairCase chip (view r))
 
+-- ---- the same table, where steps have failed
+bytes-moved : (j : Job) (b x : ℕ) → JobOfBytes j → JobOfBytes (moved j b x)
+unfolding moved
+bytes-moved (idle v) b x h = tt
+bytes-moved (single k c g t) b x h = h
+bytes-moved (double p m t) b x h = go (eqb b p)
+  where
+    go : (y : Bool) → JobOfBytes (cond y (double x m t) (single Mirror x p t))
+    go true = h
+    go false = h
+
+module _ (chip : LargeChip) (R : View) where
+  bytes-block : (q : Plan) (b : ℕ) → JobOfBytes (q .job) → AnswerOfBytes (blockFails chip R q b)
+  unfolding blockFails movedTo
+  bytes-block q b h = go (target chip R (otherBlock (q .job) b ∷ b ∷ q .failed))
+    where
+      go : (o : Option ℕ) → AnswerOfBytes (movedTo q b o)
+      go none = tt
+      go (some x) = bytes-moved (q .job) b x h
+
+  bytes-step : (q : Plan) (o : Option Step) → JobOfBytes (q .job) → AnswerOfBytes (stepFails chip R q o)
+  unfolding stepFails
+  bytes-step q none h = tt
+  bytes-step q (some (erase b)) h = bytes-block q b h
+  bytes-step q (some (write b p k t)) h = bytes-block q b h
+  bytes-step q (some (zeros b)) h = tt
+
+  bytes-failures : (failed : List ℕ) (a : Answer) → AnswerOfBytes a → AnswerOfBytes (failures chip R a failed)
+  unfolding failures failure
+  bytes-failures [] a h = h
+  bytes-failures (i ∷ is) (refuse x) h = bytes-failures is (refuse x) h
+  bytes-failures (i ∷ is) (plan q) h =
+      bytes-failures is (stepFails chip R q (stepAt (stepsOf (pagesOf chip) q) i)) (bytes-step q (stepAt (stepsOf (pagesOf chip) q) i) h)
+
+bytes-answer : {chip : LargeChip} → Judged chip → (call : Call) (a : Snapshot chip) → AnswerOfBytes (answer call a)
+bytes-answer {chip} ok call a = rw (plan-is ok a call) (go (callLent chip call))
+  where
+    go : (t : Bool) → AnswerOfBytes (cond t (inForce call a) (refuse Length))
+    go true = bytes-failures chip (view (a .from)) (a .failed) (planByRules chip (view (a .from)) call) (bytes-first (a .from) call)
+    go false = tt
+
 -- ---- steps
 abbrev pub StepOfBytes : Step → Type 0
 StepOfBytes (erase b) = Unit {0}
 StepOfBytes (write b p k t) = TableOfBytes t
+StepOfBytes (zeros b) = Unit {0}
 
 abbrev StepsOfBytes : List Step → Type 0
 StepsOfBytes [] = Unit {0}
@@ -202,11 +251,15 @@ unfolding writes
 bytes-writes zero p b k t rest h f = f
 bytes-writes (suc n) p b k t rest h f = (h, bytes-writes n (suc p) b k t rest h f)
 
-bytes-steps : (P : ℕ) (q : Plan) → PlanOfBytes q → StepsOfBytes (stepsOf P q)
-unfolding stepsOf copySteps
-bytes-steps P (idle v) h = tt
-bytes-steps P (single k b g t) h = (tt, bytes-writes P 0 b k t [] h tt)
-bytes-steps P (double p m t) h = (tt, bytes-writes P 0 _ _ t _ h (tt, bytes-writes P 0 _ _ t [] h tt))
+bytes-job : (P : ℕ) (j : Job) → JobOfBytes j → StepsOfBytes (jobSteps P j)
+unfolding jobSteps copySteps
+bytes-job P (idle v) h = tt
+bytes-job P (single k b g t) h = (tt, bytes-writes P 0 b k t [] h tt)
+bytes-job P (double p m t) h = (tt, bytes-writes P 0 _ _ t _ h (tt, bytes-writes P 0 _ _ t [] h tt))
+
+bytes-steps : (failed : List ℕ) (es : List Step) → StepsOfBytes es → StepsOfBytes (zeroFirst failed es)
+bytes-steps [] es h = h
+bytes-steps (b ∷ bs) es h = (tt, h)
 
 bytes-from : (l : List Step) (i : ℕ) (e : Step) {es : List Step} → stepsFrom l i ≡ e ∷ es → StepsOfBytes l → StepOfBytes e
 unfolding stepsFrom
@@ -217,6 +270,6 @@ bytes-from (x ∷ xs) (suc i) e h f = bytes-from xs i e h (f .1)
 
 pub bytes-next : {chip : LargeChip} (ok : Judged chip) {call : Call} {a : Snapshot chip} {i : ℕ} (e : Step) {es : List Step} → Tracked call a i (e ∷ es) → StepOfBytes e
 bytes-next {chip} ok {call} {a} {i} e t =
-    let h = plan-asked ok (a .from) call (t .made) (t .by-plan) in
-    let s : PlanOfBytes (t .made) = subst (λ (x : Answer). AnswerOfBytes x) (h .first) (bytes-first (a .from) call) in
-    bytes-from (stepsOf (pagesOf chip) (t .made)) i e (t .left) (bytes-steps (pagesOf chip) (t .made) s)
+    let h : JobOfBytes (t .made .job) = subst (λ (x : Answer). AnswerOfBytes x) (t .by-plan) (bytes-answer ok call a) in
+    bytes-from (stepsOf (pagesOf chip) (t .made)) i e (t .left)
+    (bytes-steps (t .made .failed) (jobSteps (pagesOf chip) (t .made .job)) (bytes-job (pagesOf chip) (t .made .job) h))

@@ -159,6 +159,9 @@ module _ {chip : LargeChip} (ok : Judged chip) where
     pub sole-same : {k : Kind} {g : ℕ} {t : Table} → Sole r k g t → Sole s k g t
     sole-same h = sole-kept r s (chip .region) f h (λ e. omega (arith, sole-in h)) (λ l. absurd (omega arith))
 
+    pub clear-same : {k : Kind} {b : ℕ} → Clear r k b → Clear s k b
+    clear-same {k} h = record { elsewhere = λ d l n. frame-good r s (chip .region) f k d l (λ e. omega arith) ∙ h .elsewhere d l n }
+
     pub missing-same : {k : Kind} → Missing r k → Missing s k
     missing-same h = missing-kept r s (chip .region) f (missing-clear h (chip .region)) (λ l. absurd (omega arith))
 

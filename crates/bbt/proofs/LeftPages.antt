@@ -1,11 +1,13 @@
--- What is seen of a page that was left blank, complete, unreadable or as it was; and what is seen of a good copy: its table has N/4 bytes
+-- What is seen of a page that was left blank, complete, unreadable, with zeros or as it was; and what is seen of a good copy: its table has N/4 bytes
 -- and its version is a byte. Of the laws under demand 3 these alone look at bytes.
 -- Assumes nothing.
-use mathlib.Core.Bool.{Bool, true, false, _&&_, cond, false≢true}
+use mathlib.Core.Bool.{Bool, true, false, _&&_, _||_, cond, true≢false, false≢true}
 use mathlib.Core.List.{List, _++_}
+use mathlib.Core.Logic.{_⊎_, inl, inr, _≢_}
 use mathlib.Core.Path.{_≡_, refl, sym, ap, _∙_, subst}
 use Prim.Native.Nat.{ℕ, zero, suc, _+_, _*_, _-_, _%_, _<_, _≤_, min}
 use native.Mathlib.Omega.{arith}
+use borrow.Author.Tests.{eqb-true, eq-eqb, ne-eqb}
 use lib.Dec.{eqb, lit<}
 use lib.ListN.{length, take, drop, getD, replicate, length-append, length-take, length-drop, length-replicate}
 use lib.Seq.{take-take, take-at, drop-append-add, getD-drop}
@@ -17,10 +19,10 @@ use Rattle.bbt.specs.declared.Kind.{Kind}
 use Rattle.bbt.specs.declared.Kind.the-variants.{Primary, Mirror, Neither}
 use Rattle.bbt.specs.Copies.{Table, pageVersion, pagePart, isPage, parts, good, table}
 use Rattle.bbt.specs.Images.{chunk, imageData, imageTail, partImage, pageImage}
-use Rattle.bbt.specs.Pages.{Page, unreadable, marked, reads, sameKind, kindOfWord, kindOf, versionOf, partLength, badPage, pageOf, seen}
-use Rattle.bbt.specs.Regions.{Region, view, statusAt, bytesAt, Blank, Complete, Unreadable, Kept}
+use Rattle.bbt.specs.Pages.{Page, unreadable, marked, reads, sameKind, kindOfWord, kindOf, versionOf, partLength, badMark, zeroOob, badPage, pageOf, seen}
+use Rattle.bbt.specs.Regions.{Region, view, statusAt, bytesAt, NotZeroed, Blank, Complete, Zeroed, Unreadable, Lost, Kept}
 use Rattle.bbt.proofs.Raw.{Valid, chip-valid, page-byte, page-below, page-length}
-use Rattle.bbt.proofs.Searches.{all-at}
+use Rattle.bbt.proofs.Searches.{all-intro, all-at, all-not}
 
 -- ---- the chip
 pub record Judged (chip : LargeChip) : Type 0 where
@@ -92,21 +94,35 @@ unfolding imageTail
 tail-version v primary-kind = refl
 tail-version v mirror-kind = refl
 
+tail-first : {k j : Kind} (v : ℕ) → Twin k j → getD (imageTail k v) 0 0 ≢ 0
+unfolding imageTail
+tail-first v primary-kind e = omega arith
+tail-first v mirror-kind e = omega arith
+
 signed : {k j : Kind} → Twin k j → sameKind k Neither ≡ false
 unfolding sameKind
 signed primary-kind = refl
 signed mirror-kind = refl
 
 -- ---- a page of a region
--- a page that shows a signature, or FF as its mark, or is unreadable, does not mark its block as bad
-signed-fit : (p s : ℕ) (l : List ℕ) → sameKind (kindOf l) Neither ≡ false → badPage p s l ≡ false
+not-zero : (l : List ℕ) → NotZeroed l → zeroOob l ≡ false
+unfolding zeroOob
+not-zero l (j, h, n) = all-not 64 (λ j. eqb (getD l (2048 + j) 0) 0) j h (ne-eqb (getD l (2048 + j) 0) 0 n)
+
+-- a page with no bad mark, which as a first page shows an OOB byte that isn't 0, does not mark its block as bad
+fit-page : (p s : ℕ) (l : List ℕ) → badMark s l ≡ false → (p ≡ 0 → NotZeroed l) → badPage p s l ≡ false
 unfolding badPage
-signed-fit p s l e = go (eqb p 0) (eqb s 0)
+fit-page zero s l e h = rw (e, not-zero l (h refl))
+fit-page (suc p) s l e h = rw (ne-eqb (suc p) 0 (λ z. omega arith))
+
+-- such is a page that shows a signature
+signed-fit : {k j : Kind} (p s : ℕ) (l : List ℕ) → Twin k j → kindOf l ≡ k → getD l 2062 0 ≢ 0 → badPage p s l ≡ false
+unfolding badMark
+signed-fit p s l o e n = fit-page p s l (rw (e, signed o) (go (eqb s 0))) (λ _. (14, lit< tt, n))
   where
-    go : (x y : Bool) → (x && (y && (sameKind (kindOf l) Neither && eqb (getD l 2048 0) 0))) ≡ false
-    go true true = rw e
-    go true false = refl
-    go false y = refl
+    go : (y : Bool) → (y && false) ≡ false
+    go true = refl
+    go false = refl
 
 module _ {chip : LargeChip} where
   -- page p of a copy of t, of kind k, stands complete in block b
@@ -120,24 +136,36 @@ module _ {chip : LargeChip} where
       let y = h .same-bytes in
       cc
 
-  pub unreadable-seen : (r : Region chip) (b p : ℕ) → Unreadable r b p → view r b p ≡ unreadable
-  unfolding seen pageOf badPage
-  unreadable-seen r b p h = rw (h .fails) (go (eqb p 0))
+  pub lost-seen : (r : Region chip) (b p : ℕ) → Lost r b p → view r b p ≡ unreadable
+  unfolding seen pageOf badMark
+  lost-seen r b p h = let e : badPage p 1 (bytesAt r b p) ≡ false = fit-page p 1 (bytesAt r b p) refl (h .shows) in rw (h .fails, e)
+
+  -- unreadable with any bytes: a first page can mark its block as bad
+  pub unreadable-seen : (r : Region chip) (b : ℕ) → Unreadable r b 0 → (view r b 0 ≡ unreadable) ⊎ (view r b 0 ≡ marked)
+  unfolding seen pageOf
+  unreadable-seen r b h = go (badPage 0 (statusAt r b 0) (bytesAt r b 0)) refl
     where
-      go : (x : Bool) → cond (x && false) marked unreadable ≡ unreadable
+      go : (x : Bool) → badPage 0 (statusAt r b 0) (bytesAt r b 0) ≡ x → (view r b 0 ≡ unreadable) ⊎ (view r b 0 ≡ marked)
+      go true e = inr (rw e)
+      go false e = inl (rw (e, h .fails))
+
+  pub zeroed-seen : (r : Region chip) (b : ℕ) → Zeroed r b 0 → view r b 0 ≡ marked
+  unfolding seen pageOf badPage zeroOob
+  zeroed-seen r b h =
+      let l : List ℕ = bytesAt r b 0 in
+      let e : zeroOob l ≡ true = all-intro 64 (λ j. eqb (getD l (2048 + j) 0) 0) (λ j k. eq-eqb (getD l (2048 + j) 0) 0 (h .zero-oob j k)) in
+      let f : (badMark (statusAt r b 0) l || true) ≡ true = go (badMark (statusAt r b 0) l) in
+      rw (e, f)
+    where
+      go : (x : Bool) → (x || true) ≡ true
       go true = refl
       go false = refl
 
   pub blank-seen : (r : Region chip) (b p : ℕ) → Blank r b p → (d : List ℕ) × (view r b p ≡ reads Neither 255 d)
-  unfolding seen pageOf badPage kindOf kindOfWord sameKind
+  unfolding seen pageOf badMark kindOf kindOfWord sameKind
   blank-seen r b p h =
-      let d : List ℕ = take (partLength chip p) (replicate 2112 255) in
-      (d, rw (h .well, h .all-ff) (go (eqb p 0)))
-    where
-      go : (x : Bool) → cond (x && false) marked (reads Neither 255 (take (partLength chip p) (replicate 2112 255)))
-          ≡ reads Neither 255 (take (partLength chip p) (replicate 2112 255))
-      go true = refl
-      go false = refl
+      let e : badPage p 0 (replicate 2112 255) ≡ false = fit-page p 0 (replicate 2112 255) refl (λ _. (0, lit< tt, λ z. omega arith)) in
+      (take (partLength chip p) (replicate 2112 255), rw (h .well, h .all-ff, e))
 
   pub stands-seen : (r : Region chip) (b p : ℕ) (k j : Kind) (t : Table) → Twin k j → length (t .bitmap) ≡ bitmapBytes chip
       → Stands r b p k t → view r b p ≡ reads k (t .version) (chunk p (t .bitmap))
@@ -152,7 +180,8 @@ module _ {chip : LargeChip} where
       let v : versionOf l ≡ t .version = at 4 ∙ tail-version (t .version) o in
       let d : take (partLength chip p) l ≡ chunk p (t .bitmap) =
       sym (take-take (partLength chip p) 2048 l (omega arith)) ∙ rw (h .data-as-asked, image-data k t p) (image-part chip t p len) in
-      let f : badPage p 0 l ≡ false = signed-fit p 0 l (rw e (signed o)) in
+      let u : getD l 2062 0 ≢ 0 = λ z. tail-first (t .version) o (sym (at 0) ∙ z) in
+      let f : badPage p 0 l ≡ false = signed-fit p 0 l o e u in
       rw (h .well, f, e, v, d)
 
   -- ---- the table of a good copy

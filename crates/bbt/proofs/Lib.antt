@@ -6,7 +6,8 @@ pub mod Parting
 pub mod Raw
 pub mod Views
 pub mod Dependence
--- demand 3: pages and blocks, the invariant's forms, a copy being written, what is planned, every event, and the theorem
+-- demand 3: pages and blocks, the invariant's forms, a copy being written, what is planned, at first and after failed steps, every event, and the
+-- theorem
 pub mod LeftPages
 pub mod Blocks
 pub mod Forms
@@ -15,15 +16,19 @@ pub mod Placing
 pub mod Updating
 pub mod Planning
 pub mod Numbering
+pub mod Failing
+pub mod Working
 pub mod Events
 pub mod PowerCuts
 -- a plan carried out uncut
 pub mod CarriedOut
 -- one chip with two sizes of its region
 pub mod Sizes
--- that nothing is left out of the histories, that every settled table is a start, and two histories by number
+-- that nothing is left out of the histories, that every settled table is a start, and three histories by number
 pub mod AllBytes
 pub mod Putting
 pub mod Possible
 pub mod Starts
 pub mod Example
+-- that the premise on unreadable first pages is needed
+pub mod Premise

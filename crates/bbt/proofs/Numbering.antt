@@ -1,15 +1,16 @@
 -- The plan in hand, throughout a history: the steps left are those from the next step's number on, of the plan that the library gives from
--- the snapshot. So the next step is the told step of that number, and the page image asked for by that number is its page.
+-- the snapshot and the failed steps. So the next step is the told step of that number, and the page image asked for by that number is its page.
 -- Assumes nothing.
 use mathlib.Core.List.{List, [], _∷_, map}
+use mathlib.Core.Option.{some}
 use mathlib.Core.Path.{_≡_, refl, ap, _∙_}
 use Prim.Native.Nat.{ℕ, zero, suc}
 use Rattle.chip.specs.Large.{pagesOf}
 use Rattle.chip.specs.declared.LargeChip.{LargeChip}
 use Rattle.bbt.specs.declared.Step.{Step as ToldStep}
-use Rattle.bbt.specs.Histories.{Snapshot, snapshot, answer, Hand, empty, holding, World, world, Last, Event, plan-refused, update-planned, recovery-planned, step-done, step-cut, cut-between, no-step-left, no-plan, History, start, next}
+use Rattle.bbt.specs.Histories.{Snapshot, snapshot, withFailed, answer, Hand, empty, holding, World, world, Last, Event, plan-refused, update-planned, recovery-planned, step-done, step-cut, cut-between, step-failed, step-given-up, no-step-left, no-plan, History, start, next}
 use Rattle.bbt.specs.Images.{imageAt, planImage}
-use Rattle.bbt.specs.Plans.{Step, erase, write, Plan, stepsOf, plan, Call}
+use Rattle.bbt.specs.Plans.{Step, erase, write, zeros, Plan, stepsOf, stepAt, plan, Call}
 use Rattle.bbt.specs.PowerCuts.{ImageOf, Numbered, Start, settled-at}
 use Rattle.bbt.specs.Regions.{Region}
 use Rattle.bbt.specs.Told.{toldStep, nthStep}
@@ -38,10 +39,18 @@ from-told f [] (suc i) h = absurd (no-confusion (cc))
 from-told f (x ∷ xs) zero {e} {es} h = let q : x ≡ e = cc in ap f q
 from-told f (x ∷ xs) (suc i) h = from-told f xs i h
 
+pub from-at : (l : List Step) (i : ℕ) {e : Step} {es : List Step} → stepsFrom l i ≡ e ∷ es → stepAt l i ≡ some e
+unfolding stepsFrom stepAt
+from-at [] zero h = absurd (no-confusion (cc))
+from-at [] (suc i) h = absurd (no-confusion (cc))
+from-at (x ∷ xs) zero {e} {es} h = let q : x ≡ e = cc in ap some q
+from-at (x ∷ xs) (suc i) h = from-at xs i h
+
 first-image : (x : Step) (xs : List Step) → ImageOf x (imageAt (x ∷ xs) 0)
 unfolding imageAt
 first-image (erase b) xs = refl
 first-image (write b p k t) xs = refl
+first-image (zeros b) xs = refl
 
 from-image : (l : List Step) (i : ℕ) (e : Step) {es : List Step} → stepsFrom l i ≡ e ∷ es → ImageOf e (imageAt l i)
 unfolding stepsFrom imageAt
@@ -50,6 +59,7 @@ from-image [] (suc i) e h = absurd (no-confusion (cc))
 from-image (x ∷ xs) zero e h = let q : x ≡ e = cc in rw (← q) (first-image x xs)
 from-image (erase b ∷ xs) (suc i) e h = from-image xs i e h
 from-image (write b p k t ∷ xs) (suc i) e h = from-image xs i e h
+from-image (zeros b ∷ xs) (suc i) e h = from-image xs i e h
 
 -- ---- the plan in hand
 module _ {chip : LargeChip} where
@@ -79,6 +89,8 @@ module _ {chip : LargeChip} where
   track-event t (step-done s l′ k d en) = track-next t
   track-event t (step-cut s l′ k d cl) = tt
   track-event t (cut-between l′ cl) = tt
+  track-event t (step-failed {a = a} {i = i} s q k d e) = track-first _ (withFailed a i) q e
+  track-event t (step-given-up s l′ x k d e cl) = tt
   track-event t no-step-left = t
   track-event t no-plan = tt
 

@@ -1,5 +1,5 @@
--- A copy being written: its block is erased, then its pages are written one by one, while the other kind's copy stands elsewhere. What a
--- step of it, done or cut, makes of the region, once for every kind, block and number of pages.
+-- A copy being written: a failed block gets zeros, if one has failed, the copy's block is erased, then its pages are written one by one, while the
+-- other kind's copy stands elsewhere. What a step of it, done, cut or failed, makes of the region, once for every kind, block and number of pages.
 -- Assumes nothing.
 use mathlib.Core.Bool.{false}
 use mathlib.Core.List.{List, _∷_}
@@ -15,24 +15,26 @@ use Rattle.bbt.specs.declared.Kind.{Kind}
 use Rattle.bbt.specs.Copies.{Table, readsBad}
 use Rattle.bbt.specs.Histories.{OthersKept, Done, Cut}
 use Rattle.bbt.specs.Images.{Imaged, page-image, pageImage}
-use Rattle.bbt.specs.Plans.{Step, erase, write, writes, copySteps}
+use Rattle.bbt.specs.Plans.{Step, erase, write, zeros, writes, copySteps}
 use Rattle.bbt.specs.PowerCuts.{ImageOf}
-use Rattle.bbt.specs.Regions.{Region, view, Blank, Unreadable, Kept}
+use Rattle.bbt.specs.Regions.{Region, view, Blank, Zeroed, Unreadable, Lost, Kept}
 use Rattle.bbt.proofs.Blocks.{Foreign, not-good}
-use Rattle.bbt.proofs.Forms.{Sole, Clear, Room, Lacks, Fill, Whole, Frame, sole-kept, missing-kept, sole-new, missing-clear, whole-copy}
+use Rattle.bbt.proofs.Forms.{Sole, Clear, Room, Lacks, Fill, Whole, Frame, frame-bad, sole-kept, missing-kept, sole-new, missing-clear, sole-clear, whole-copy, sole-same, clear-same}
 use Rattle.bbt.proofs.LeftPages.{Judged, Twin, twin-sym, Stands}
-use Rattle.bbt.proofs.Outcomes.{blank-foreign, unreadable-foreign, stands-foreign, blank-fit, unreadable-fit, stands-fit, kept-fit, complete-kept, blank-kept}
+use Rattle.bbt.proofs.Outcomes.{blank-foreign, lost-foreign, zeroed-foreign, stands-foreign, blank-fit, lost-fit, stands-fit, kept-fit, complete-kept, blank-kept}
 use Rattle.bbt.proofs.Searches.{all-or-some, below-suc}
 
 module _ {chip : LargeChip} where
-  -- ---- a step, done or cut, by what it writes
+  -- ---- a step, done, or cut or failed, by what it writes
   abbrev pub Did : Step → Region chip → Type 0
   Did (erase b) s = (p : ℕ) → p < pagesOf chip → Blank s b p
   Did (write b p k t) s = Stands s b p k t
+  Did (zeros b) s = Zeroed s b 0
 
   abbrev pub Broke : Step → Region chip → Region chip → Type 0
-  Broke (erase b) r s = (p : ℕ) → p < pagesOf chip → Kept r s b p ⊎ (Blank s b p ⊎ Unreadable s b p)
-  Broke (write b p k t) r s = Blank s b p ⊎ (Stands s b p k t ⊎ Unreadable s b p)
+  Broke (erase b) r s = (p : ℕ) → p < pagesOf chip → Kept r s b p ⊎ (Blank s b p ⊎ Lost s b p)
+  Broke (write b p k t) r s = Blank s b p ⊎ (Stands s b p k t ⊎ Lost s b p)
+  Broke (zeros b) r s = Kept r s b 0 ⊎ (Zeroed s b 0 ⊎ Unreadable s b 0)
 
   -- the page image that was asked for is the step's
   pub did : (s : Region chip) (x : Imaged) (e : Step) → ImageOf e x → Done x e s → Did e s
@@ -41,15 +43,20 @@ module _ {chip : LargeChip} where
       let q : page-image (d .page) ≡ page-image (pageImage k t p) = sym (d .given) ∙ h in
       let z : d .page ≡ pageImage k t p = cc in
       rw z at (d .complete)
+  did s x (zeros b) h d = d
 
   pub broke : (r s : Region chip) (x : Imaged) (e : Step) → ImageOf e x → Cut x e r s → Broke e r s
   broke r s x (erase b) h d = d
   broke r s x (write b p k t) h (inl d) = inl d
   broke r s x (write b p k t) h (inr (inl d)) = inr (inl (did s x (write b p k t) h d))
   broke r s x (write b p k t) h (inr (inr d)) = inr (inr d)
+  broke r s x (zeros b) h d = d
 
   pub erase-frame : {r s : Region chip} {b : ℕ} → OthersKept (erase b) r s → Frame r s b
   erase-frame f = λ d p hd hp ne. f d p hd hp ne
+
+  pub zeros-frame : {r s : Region chip} {b : ℕ} → OthersKept (zeros b) r s → Frame r s b
+  zeros-frame f = λ d p hd hp ne. f d p hd hp (λ t. ne (t .0))
 
 module _ {chip : LargeChip} where
   -- the steps left of placing a copy of x, kind k, at block b, and after them the rest; kind j's copy at g holds c
@@ -58,13 +65,16 @@ module _ {chip : LargeChip} where
         → readsBad (view r) b ≡ false → b < chip .region → g ≢ b → Placing r k j b g x c rest (erase b ∷ es)
     place-fill : {es : List Step} (n q : ℕ) → suc n + q ≡ pagesOf chip → es ≡ writes n (suc q) b k x rest → Fill r k j b g x c q
         → Placing r k j b g x c rest (write b q k x ∷ es)
+    -- block z has failed, and zeros are still to come
+    place-retire : {z : ℕ} {es : List Step} → es ≡ copySteps (pagesOf chip) b k x rest → Sole r j g c → Clear r k z → z < chip .region → g ≢ z → b ≢ z
+        → readsBad (view r) b ≡ false → b < chip .region → g ≢ b → Placing r k j b g x c rest (zeros z ∷ es)
 
   -- what a step of it, done, leaves
   pub data Went (s : Region chip) (k j : Kind) (b g : ℕ) (x c : Table) (rest es : List Step) : Type 0 where
     more : Placing s k j b g x c rest es → Lacks s k j g c → Went s k j b g x c rest es
     placed : es ≡ rest → Sole s j g c → Sole s k b x → Whole s k b x → Went s k j b g x c rest es
 
-  -- what a step of it, cut, leaves
+  -- what a step of it, cut or failed, leaves
   pub data Remains (r s : Region chip) (k j : Kind) (b g : ℕ) (x c : Table) : Type 0 where
     unchanged : Frame r s (chip .region) → Remains r s k j b g x c
     lacks : Lacks s k j g c → Remains r s k j b g x c
@@ -94,10 +104,10 @@ module _ {chip : LargeChip} (ok : Judged chip) where
   erase-fit : {r s : Region chip} {b : ℕ} → Broke (erase b) r s → readsBad (view r) b ≡ false → readsBad (view s) b ≡ false
   erase-fit {r} {s} {b} d e = go (d 0 (ok .some-page))
     where
-      go : Kept r s b 0 ⊎ (Blank s b 0 ⊎ Unreadable s b 0) → readsBad (view s) b ≡ false
+      go : Kept r s b 0 ⊎ (Blank s b 0 ⊎ Lost s b 0) → readsBad (view s) b ≡ false
       go (inl h) = kept-fit h e
       go (inr (inl h)) = blank-fit h
-      go (inr (inr h)) = unreadable-fit h
+      go (inr (inr h)) = lost-fit h
 
   blank-room : {s : Region chip} {b g : ℕ} → b < chip .region → g ≢ b → readsBad (view s) b ≡ false → Room s g
   blank-room {b = b} l n e = record { spot = b; spot-in = l; spot-off = λ q. n (sym q); spot-fit = e }
@@ -120,13 +130,13 @@ module _ {chip : LargeChip} (ok : Judged chip) where
   cut-erase : {r s : Region chip} {k j : Kind} {b g : ℕ} {x c : Table} → OthersKept (erase b) r s → Broke (erase b) r s
       → Twin k j → Sole r j g c → Clear r k b → readsBad (view r) b ≡ false → b < chip .region → g ≢ b → Remains r s k j b g x c
   cut-erase {r} {s} {k} {j} {b} {g} {x} {c} f d o t w e hb ne =
-      go (all-or-some (pagesOf chip) (λ p. Kept r s b p) (λ p. Blank s b p ⊎ Unreadable s b p) d)
+      go (all-or-some (pagesOf chip) (λ p. Kept r s b p) (λ p. Blank s b p ⊎ Lost s b p) d)
     where
-      off : (p : ℕ) → Blank s b p ⊎ Unreadable s b p → (i : Kind) → Foreign i (view s b p)
+      off : (p : ℕ) → Blank s b p ⊎ Lost s b p → (i : Kind) → Foreign i (view s b p)
       off p (inl z) i = blank-foreign i z
-      off p (inr z) i = unreadable-foreign i z
+      off p (inr z) i = lost-foreign i z
 
-      go : ((p : ℕ) → p < pagesOf chip → Kept r s b p) ⊎ ((p : ℕ) × (p < pagesOf chip) × (Blank s b p ⊎ Unreadable s b p)) → Remains r s k j b g x c
+      go : ((p : ℕ) → p < pagesOf chip → Kept r s b p) ⊎ ((p : ℕ) × (p < pagesOf chip) × (Blank s b p ⊎ Lost s b p)) → Remains r s k j b g x c
       go (inl h) = unchanged (all-same (erase-frame f) h)
       go (inr h) = lacks (gone (erase-frame f) o t w ne (h .0) (h .1) (off (h .0) (h .2)) (blank-room hb ne (erase-fit d e)))
 
@@ -155,29 +165,29 @@ module _ {chip : LargeChip} (ok : Judged chip) where
     still i h = complete-kept (kept i (omega arith) (omega arith)) (l .written i h)
 
     -- the block's first page, whatever became of page q
-    first : Broke (write b q k x) r s → Blank s b 0 ⊎ (Stands s b 0 k x ⊎ Unreadable s b 0)
+    first : Broke (write b q k x) r s → Blank s b 0 ⊎ (Stands s b 0 k x ⊎ Lost s b 0)
     first d = go (ℕ-discrete q 0)
       where
-        go : Dec (q ≡ 0) → Blank s b 0 ⊎ (Stands s b 0 k x ⊎ Unreadable s b 0)
+        go : Dec (q ≡ 0) → Blank s b 0 ⊎ (Stands s b 0 k x ⊎ Lost s b 0)
         go (yes e) = rw e at d
         go (no n) = inr (inl (still 0 (omega arith)))
 
     write-fit : Broke (write b q k x) r s → readsBad (view s) b ≡ false
     write-fit d = go (first d)
       where
-        go : Blank s b 0 ⊎ (Stands s b 0 k x ⊎ Unreadable s b 0) → readsBad (view s) b ≡ false
+        go : Blank s b 0 ⊎ (Stands s b 0 k x ⊎ Lost s b 0) → readsBad (view s) b ≡ false
         go (inl h) = blank-fit h
         go (inr (inl h)) = stands-fit x (l .kinds) (l .full) h
-        go (inr (inr h)) = unreadable-fit h
+        go (inr (inr h)) = lost-fit h
 
     twin-kept : Broke (write b q k x) r s → Sole s j g c
     twin-kept d =
         sole-kept ok r s b write-frame (l .twin) (l .off-twin) (λ _. not-good (pagesOf chip) (ok .some-page) (view s) b j k (twin-sym (l .kinds)) 0 (ok .some-page) (go (first d)))
       where
-        go : Blank s b 0 ⊎ (Stands s b 0 k x ⊎ Unreadable s b 0) → Foreign j (view s b 0)
+        go : Blank s b 0 ⊎ (Stands s b 0 k x ⊎ Lost s b 0) → Foreign j (view s b 0)
         go (inl h) = blank-foreign j h
         go (inr (inl h)) = stands-foreign x (l .kinds) (l .full) h
-        go (inr (inr h)) = unreadable-foreign j h
+        go (inr (inr h)) = lost-foreign j h
 
     lacks-page : (d : Broke (write b q k x) r s) (p : ℕ) → p < pagesOf chip → Foreign k (view s b p) → Lacks s k j g c
     lacks-page d p hp h =
@@ -228,7 +238,7 @@ module _ {chip : LargeChip} (ok : Judged chip) where
 
     write-cut : (n : ℕ) → suc n + q ≡ pagesOf chip → Broke (write b q k x) r s → Remains r s k j b g x c
     write-cut n e (inl d) = lacks (lacks-page (inl d) q hq (blank-foreign k d))
-    write-cut n e (inr (inr d)) = lacks (lacks-page (inr (inr d)) q hq (unreadable-foreign k d))
+    write-cut n e (inr (inr d)) = lacks (lacks-page (inr (inr d)) q hq (lost-foreign k d))
     write-cut zero e (inr (inl d)) = whole (twin-kept (inr (inl d))) (fill-end (omega arith) d) (fill-all (omega arith) d)
     write-cut (suc n) e (inr (inl d)) = let z : Fill s k j b g x c (suc q) = fill-more (omega arith) d in lacks (fill-lacks s k j b g x c (suc q) z)
 
@@ -243,18 +253,44 @@ module _ {chip : LargeChip} (ok : Judged chip) where
     unfolding copySteps
     place-done (place-start w t cl ft hb ne) sp d = start-done (pagesOf chip) refl w (erased x sp d o t cl hb ne full)
     place-done (place-fill n q e w l) sp d = write-done r s k j b g x c q l (omega arith) sp n e w d
+    place-done (place-retire {z = z} w t cl hz nz nb ft hb ne) sp d =
+        let fit : readsBad (view s) b ≡ false = frame-bad ok r s z (zeros-frame sp) b hb nb ∙ ft in
+        let l = gone (zeros-frame sp) o t cl nz 0 (ok .some-page) (λ i. zeroed-foreign i (inl d)) (blank-room hb ne fit) in
+        rw w (more (place-start refl (l .twin) (missing-clear ok (l .lacking) b) fit hb ne) l)
 
     pub place-cut : {e : Step} {es : List Step} → Placing r k j b g x c rest (e ∷ es) → OthersKept e r s → Broke e r s → Remains r s k j b g x c
     place-cut (place-start w t cl ft hb ne) sp d = cut-erase sp d o t cl ft hb ne
     place-cut (place-fill n q e w l) sp d = write-cut r s k j b g x c q l (omega arith) sp n e d
+    place-cut (place-retire {z = z} w t cl hz nz nb ft hb ne) sp (inl d) = unchanged (all-same (zeros-frame sp) (λ p hp. at p hp (ℕ-discrete p 0)))
+      where
+        at : (p : ℕ) → p < pagesOf chip → Dec (p ≡ 0) → Kept r s z p
+        at p hp (yes e) = rw e d
+        at p hp (no n) = sp z p hz hp (λ t. n (t .1))
+    place-cut (place-retire {z = z} w t cl hz nz nb ft hb ne) sp (inr d) =
+        lacks (gone (zeros-frame sp) o t cl nz 0 (ok .some-page) (λ i. zeroed-foreign i d)
+        (blank-room hb ne (frame-bad ok r s z (zeros-frame sp) b hb nb ∙ ft)))
+
+  module _ (r s : Region chip) {k j : Kind} {b g : ℕ} {x c : Table} where
+    -- what is left keeps the other copy, and no other copy of its own kind
+    pub remains-twin : Sole r j g c → Remains r s k j b g x c → Sole s j g c
+    remains-twin t (unchanged f) = sole-same ok r s f t
+    remains-twin t (lacks l) = l .twin
+    remains-twin t (whole u v w) = u
+
+    pub remains-clear : Clear r k b → Remains r s k j b g x c → Clear s k b
+    remains-clear t (unchanged f) = clear-same ok r s f t
+    remains-clear t (lacks l) = missing-clear ok (l .lacking) b
+    remains-clear t (whole u v w) = sole-clear ok v
 
   module _ (r s : Region chip) {k j : Kind} {b g : ℕ} {x c : Table} {rest : List Step} where
     -- the block that the next step touches
     pub place-frame : {e : Step} {es : List Step} → Placing r k j b g x c rest (e ∷ es) → OthersKept e r s
-        → (z : ℕ) × Frame r s z × (g ≢ z)
-    place-frame (place-start w t cl ft hb ne) sp = (b, erase-frame sp, ne)
-    place-frame (place-fill n q e w l) sp = (b, write-frame r s k j b g x c q l (omega arith) sp, l .off-twin)
+        → (z : ℕ) × Frame r s z × (g ≢ z) × ((z ≡ b) ⊎ (e ≡ zeros z))
+    place-frame (place-start w t cl ft hb ne) sp = (b, erase-frame sp, ne, inl refl)
+    place-frame (place-fill n q e w l) sp = (b, write-frame r s k j b g x c q l (omega arith) sp, l .off-twin, inl refl)
+    place-frame (place-retire {z = z} w t cl hz nz nb ft hb ne) sp = (z, zeros-frame sp, nz, inr refl)
 
   pub place-twin : {r : Region chip} {k j : Kind} {b g : ℕ} {x c : Table} {rest es : List Step} → Placing r k j b g x c rest es → Sole r j g c × (b < chip .region) × (g ≢ b)
   place-twin (place-start w t cl ft hb ne) = (t, hb, ne)
   place-twin (place-fill n q e w l) = (l .twin, l .in-region, l .off-twin)
+  place-twin (place-retire w t cl hz nz nb ft hb ne) = (t, hb, ne)

@@ -1,7 +1,7 @@
 -- What the library plans: a region's case says which good copies there are, so what it takes for the plan's steps is there (`Ready`), for
 -- any region image; and from a sound region a recovery is planned, of the table that the region holds.
 -- Assumes nothing.
-use mathlib.Core.Bool.{Bool, true, false, not, cond, true≢false}
+use mathlib.Core.Bool.{Bool, true, false, not, _||_, cond, true≢false}
 use mathlib.Core.List.{List, [], _∷_}
 use mathlib.Core.Logic.{_≢_}
 use mathlib.Core.Option.{Option, none, some}
@@ -20,17 +20,27 @@ use Rattle.bbt.specs.declared.Kind.{Kind}
 use Rattle.bbt.specs.declared.Kind.the-variants.{Primary, Mirror}
 use Rattle.bbt.specs.Copies.{Table, table, readsBad, Found, nowhere, only, several}
 use Rattle.bbt.specs.Entries.{updatedBytes}
+use Rattle.bbt.specs.Failures.{failures}
 use Rattle.bbt.specs.Histories.{Snapshot, snapshot, answer, asked}
 use Rattle.bbt.specs.Images.{planImage}
 use Rattle.bbt.specs.Lent.{regionLent, statusesRight, callLent, lentPlan, planned, imaged}
 use Rattle.bbt.specs.Pairs.{same, signedOf, difference, Case, no-pair, alone, settled, merging, differing, bothCase, compared, caseOf, copies, pairCase}
-use Rattle.bbt.specs.Plans.{Reading, refused, holds, readCase, reading, Plan, idle, single, double, refuse, plan, nextVersion, updated, updateFrom, update, member, isFree, target, otherKind, recoverTo, anded, recoverNewer, recoverCase, recovery, Call, for-update, for-recovery, planByRules}
+use Rattle.bbt.specs.Plans.{Reading, refused, holds, readCase, reading, Job, idle, single, double, Plan, fresh, Answer, refuse, plan, nextVersion, updated, updateFrom, update, member, isFree, target, otherKind, recoverTo, anded, recoverNewer, recoverCase, recovery, Call, for-update, for-recovery, planByRules}
 use Rattle.bbt.specs.PowerCuts.{NotGoodKept}
 use Rattle.bbt.specs.Regions.{Region, view}
 use Rattle.bbt.proofs.Forms.{Sole, Missing, Clear, Room, Lacks, Sound, twins, ahead, one-left, sole-clear, sole-in, sole-fit, sole-length, sole-apart, missing-clear}
 use Rattle.bbt.proofs.LeftPages.{Judged, Twin, primary-kind, mirror-kind, version-byte}
 use Rattle.bbt.proofs.Searches.{no-confusion, all-intro, highest-some, highest-is, same-refl, same-eq}
 use Rattle.bbt.proofs.Updating.{length-updated, length-anded, update-keeps}
+
+-- a block that is not in a list is none of its blocks
+pub member-apart : (x y : ℕ) (ys : List ℕ) → member x (y ∷ ys) ≡ false → (x ≢ y) × (member x ys ≡ false)
+unfolding member
+member-apart x y ys e = ((λ z. true≢false (sym (rw (eq-eqb x y z)) ∙ e)), go (eqb x y) e)
+  where
+    go : (t : Bool) → (t || member x ys) ≡ false → member x ys ≡ false
+    go true h = absurd (true≢false h)
+    go false h = h
 
 not-true : (x : Bool) → not x ≡ true → x ≡ false
 not-true true e = absurd (true≢false (sym e))
@@ -154,10 +164,14 @@ module _ {chip : LargeChip} where
 
 -- ---- what is said of plans
 -- the plan's copies, if it has any, are of the table c
-abbrev pub Of : Table → Plan → Type 0
+abbrev pub Of : Table → Job → Type 0
 Of c (idle v) = Unit {0}
 Of c (single k b g t) = t ≡ c
 Of c (double p m t) = ⊥
+
+-- a plan as it is made: no block has failed, and of its job this holds
+abbrev pub AsMade : (Job → Type 0) → Plan → Type 0
+AsMade A q = (j : Job) × (q ≡ fresh j) × A j
 
 -- a new table beside the old one
 pub record News (chip : LargeChip) (o n : Table) : Type 0 where
@@ -167,7 +181,7 @@ pub record News (chip : LargeChip) (o n : Table) : Type 0 where
   pub not-good-kept : NotGoodKept chip o n
 
 -- an update of a settled pair: no news, an empty plan; news, both copies of the new table
-pub data Update (chip : LargeChip) (o n : Table) (p m : ℕ) : Plan → Type 0 where
+pub data Update (chip : LargeChip) (o n : Table) (p m : ℕ) : Job → Type 0 where
   no-news : n ≡ o → Update chip o n p m (idle (o .version))
   news : News chip o n → Update chip o n p m (double p m n)
 
@@ -177,8 +191,18 @@ module _ {chip : LargeChip} where
     pub lent : callLent chip call ≡ true
     pub first : planByRules chip (view r) call ≡ plan q
 
+  -- what planning makes of the failed steps
+  abbrev pub inForce : Call → Snapshot chip → Answer
+  inForce call a = failures chip (view (a .from)) (planByRules chip (view (a .from)) call) (a .failed)
+
+  -- a block of the region that is none of those to avoid, and not readable as bad
+  pub record Target (r : Region chip) (avoid : List ℕ) (t : ℕ) : Type 0 where
+    pub below : t < chip .region
+    pub off : member t avoid ≡ false
+    pub fit : readsBad (view r) t ≡ false
+
   -- what a plan's steps take is there
-  pub data Ready (r : Region chip) : Plan → Type 0 where
+  pub data Ready (r : Region chip) : Job → Type 0 where
     nothing-to-do : {p m v : ℕ} {t : Table} → Sole r Primary p t → Sole r Mirror m t → t .version ≡ v → Ready r (idle v)
     one-to-place : {k j : Kind} {b g : ℕ} {c : Table} → Twin k j → Sole r j g c → Clear r k b → readsBad (view r) b ≡ false → b < chip .region
         → g ≢ b → Ready r (single k b g c)
@@ -196,11 +220,12 @@ module _ {chip : LargeChip} (ok : Judged chip) where
   unfolding statusesRight
   statuses-right r = all-intro (length (r .status)) (λ i. ltb (getD (r .status) i 0) 2) (λ i l. lt-ltb (getD (r .status) i 0) 2 (r .status-bits i))
 
-  pub plan-is : (a : Snapshot chip) (call : Call) → answer call a ≡ cond (callLent chip call) (planByRules chip (view (a .from)) call) (refuse Length)
+  pub plan-is : (a : Snapshot chip) (call : Call) → answer call a ≡ cond (callLent chip call) (inForce call a) (refuse Length)
   unfolding planned lentPlan
   plan-is a call = rw (ok .is-chip, lengths-right (a .from), statuses-right (a .from))
 
   pub plan-first : (r : Region chip) (call : Call) → callLent chip call ≡ true → answer call (snapshot r) ≡ planByRules chip (view r) call
+  unfolding failures
   plan-first r call e = plan-is (snapshot r) call ∙ rw e
 
   -- a page image is that of the plan
@@ -216,13 +241,15 @@ module _ {chip : LargeChip} (ok : Judged chip) where
       go false a = let z : refuse Length ≡ plan q = sym (plan-is (snapshot r) call ∙ rw a) ∙ e in absurd (no-confusion (cc))
 
   -- ---- targets
-  target-free : (r : Region chip) (g t : ℕ) → target chip (view r) (g ∷ []) ≡ some t → (t < chip .region) × (g ≢ t) × (readsBad (view r) t ≡ false)
-  unfolding target member
-  target-free r g t e =
-      let h = highest-is (chip .region) (isFree (view r) (g ∷ [])) t e in
-      let off : member t (g ∷ []) ≡ false = not-true (member t (g ∷ [])) (both-left (not (member t (g ∷ []))) (not (readsBad (view r) t)) (h .passing)) in
-      let fit : readsBad (view r) t ≡ false = not-true (readsBad (view r) t) (both-right (not (member t (g ∷ []))) (not (readsBad (view r) t)) (h .passing)) in
-      (h .below, (λ z. true≢false (sym (rw (eq-eqb t g (sym z))) ∙ off)), fit)
+  pub target-is : (r : Region chip) (avoid : List ℕ) (t : ℕ) → target chip (view r) avoid ≡ some t → Target r avoid t
+  unfolding target
+  target-is r avoid t e =
+      let h = highest-is (chip .region) (isFree (view r) avoid) t e in
+      record {
+        below = h .below;
+        off = not-true (member t avoid) (both-left (not (member t avoid)) (not (readsBad (view r) t)) (h .passing));
+        fit = not-true (readsBad (view r) t) (both-right (not (member t avoid)) (not (readsBad (view r) t)) (h .passing));
+      }
 
   target-there : (r : Region chip) (g : ℕ) → Room r g → (t : ℕ) × (target chip (view r) (g ∷ []) ≡ some t)
   unfolding target member
@@ -231,17 +258,17 @@ module _ {chip : LargeChip} (ok : Judged chip) where
       highest-some (chip .region) (isFree (view r) (g ∷ [])) (room .spot) (room .spot-in) e
 
   -- ---- a plan finds what its steps take, at any region
-  to-ready : (r : Region chip) (x : Plan) (q : Plan) → plan x ≡ plan q → Ready r x → Ready r q
-  to-ready r x q e h = let z : x ≡ q = cc in subst (λ (w : Plan). Ready r w) z h
+  to-ready : (r : Region chip) (x : Job) (q : Plan) → plan (fresh x) ≡ plan q → Ready r x → AsMade (Ready r) q
+  to-ready r x q e h = let z : q ≡ fresh x = cc in (x, z, h)
 
-  older-ready : (r : Region chip) (d : ℤ) (p m : ℕ) (x y : Table) (q : Plan) → Sole r Primary p x → Sole r Mirror m y → recoverNewer d x y p m ≡ plan q → Ready r q
+  older-ready : (r : Region chip) (d : ℤ) (p m : ℕ) (x y : Table) (q : Plan) → Sole r Primary p x → Sole r Mirror m y → recoverNewer d x y p m ≡ plan q → AsMade (Ready r) q
   unfolding recoverNewer
   older-ready r (pos n) p m x y q u v e =
       to-ready r (single Mirror m p x) q e (one-to-place mirror-kind u (sole-clear ok v) (sole-fit ok v) (sole-in ok v) (sole-apart ok primary-kind v u))
   older-ready r (negsuc n) p m x y q u v e =
       to-ready r (single Primary p m y) q e (one-to-place primary-kind v (sole-clear ok u) (sole-fit ok u) (sole-in ok u) (sole-apart ok mirror-kind u v))
 
-  recovery-ready : (r : Region chip) (c : Case) (q : Plan) → Says r c → recoverCase chip (view r) c ≡ plan q → Ready r q
+  recovery-ready : (r : Region chip) (c : Case) (q : Plan) → Says r c → recoverCase chip (view r) c ≡ plan q → AsMade (Ready r) q
   unfolding recoverCase recoverTo anded
   recovery-ready r (no-pair x) q s e = absurd (no-confusion (cc))
   recovery-ready r (alone k g) q s e = go (target chip (view r) (g ∷ [])) refl e
@@ -249,11 +276,12 @@ module _ {chip : LargeChip} (ok : Judged chip) where
       t : Table
       t = table (pagesOf chip) (view r) g
 
-      go : (o : Option ℕ) → target chip (view r) (g ∷ []) ≡ o → recoverTo (otherKind k) g t o ≡ plan q → Ready r q
+      go : (o : Option ℕ) → target chip (view r) (g ∷ []) ≡ o → recoverTo (otherKind k) g t o ≡ plan q → AsMade (Ready r) q
       go none a e = absurd (no-confusion (cc))
       go (some b) a e =
-          let f = target-free r g b a in
-          to-ready r (single (otherKind k) b g t) q e (one-to-place (s .0) (s .1) (missing-clear ok (s .2) b) (f .2) (f .0) (f .1))
+          let f = target-is r (g ∷ []) b a in
+          to-ready r (single (otherKind k) b g t) q e
+          (one-to-place (s .0) (s .1) (missing-clear ok (s .2) b) (f .fit) (f .below) (λ z. member-apart b g [] (f .off) .0 (sym z)))
   recovery-ready r (settled p m) q s e =
       let x : Sole r Primary p (s .0) = s .1 in
       to-ready r (idle (table (pagesOf chip) (view r) p .version)) q e (nothing-to-do x (s .2) (ap (λ (t : Table). t .version) (sym (x .content))))
@@ -272,7 +300,7 @@ module _ {chip : LargeChip} (ok : Judged chip) where
 
   -- ---- an update
   pub updates : (r : Region chip) (p m : ℕ) (o : Table) (w : List ℕ) (q : Plan) → Sole r Primary p o → Sole r Mirror m o → Asked r (for-update w) q
-      → Update chip o (updated o w) p m q
+      → AsMade (Update chip o (updated o w) p m) q
   unfolding planByRules update updateFrom updated
   updates r p m o w q x y h = go (same (updatedBytes (o .bitmap) w) (o .bitmap)) refl
     where
@@ -285,15 +313,15 @@ module _ {chip : LargeChip} (ok : Judged chip) where
       lw : length w ≡ bitmapBytes chip
       lw = eqb-true (length w) (bitmapBytes chip) (h .lent)
 
-      go : (t : Bool) → same (updatedBytes (o .bitmap) w) (o .bitmap) ≡ t → Update chip o (updated o w) p m q
+      go : (t : Bool) → same (updatedBytes (o .bitmap) w) (o .bitmap) ≡ t → AsMade (Update chip o (updated o w) p m) q
       go true a =
-          let g : plan (idle (o .version)) ≡ plan q = rw (settled-reading x y, a) at (h .first) in
-          let i : idle (o .version) ≡ q = cc in
-          subst (λ (z : Plan). Update chip o (updated o w) p m z) i (no-news (rw a))
+          let g : plan (fresh (idle (o .version))) ≡ plan q = rw (settled-reading x y, a) at (h .first) in
+          let i : q ≡ fresh (idle (o .version)) = cc in
+          (idle (o .version), i, no-news (rw a))
       go false a =
           let k : n ≡ updated o w = rw a in
-          let g : plan (double p m n) ≡ plan q = rw (settled-reading x y, a) at (h .first) in
-          let i : double p m n ≡ q = cc in
+          let g : plan (fresh (double p m n)) ≡ plan q = rw (settled-reading x y, a) at (h .first) in
+          let i : q ≡ fresh (double p m n) = cc in
           let z : News chip o n =
           record {
             newer = refl;
@@ -301,8 +329,7 @@ module _ {chip : LargeChip} (ok : Judged chip) where
             full = length-updated (o .bitmap) w (lo ∙ sym lw) ∙ lo;
             not-good-kept = update-keeps chip o n w (ok .fours) lo lw refl;
           } in
-          subst (λ (z : Plan). Update chip o (updated o w) p m z) i
-          (subst (λ (t : Table). Update chip o t p m (double p m n)) k (news z))
+          (double p m n, i, subst (λ (t : Table). Update chip o t p m (double p m n)) k (news z))
 
   pub update-reads : (r : Region chip) (w : List ℕ) (q : Plan) → Asked r (for-update w) q → (p : ℕ) × (m : ℕ) × (o : Table) × (reading chip (view r) ≡ holds p m o)
   unfolding planByRules update updateFrom
@@ -318,7 +345,7 @@ module _ {chip : LargeChip} (ok : Judged chip) where
   no-merge (ahead {p = a} {m = b} x y v) p m e = let z : differing (pos 1) a b ≡ merging p m = sym (ahead-case x y v) ∙ e in no-confusion (cc)
   no-merge (one-left {j = j} {g = g} o l) p m e = let z : alone j g ≡ merging p m = sym (left-case o l) ∙ e in no-confusion (cc)
 
-  pub recovers : {r : Region chip} {c : Table} → Sound r c → (q : Plan) × (recovery chip (view r) ≡ plan q) × Of c q
+  pub recovers : {r : Region chip} {c : Table} → Sound r c → (j : Job) × (recovery chip (view r) ≡ plan (fresh j)) × Of c j
   unfolding recovery recoverCase recoverTo recoverNewer
   recovers {r} {c} (twins x y) = (idle (c .version), rw (settled-case x y, x .content), tt)
   recovers {r} {c} (ahead {p} {m} x y e) = (single Mirror m p c, rw (ahead-case x y e, x .content), refl)
@@ -338,15 +365,16 @@ module _ {chip : LargeChip} (ok : Judged chip) where
   sound-settled (one-left mirror-kind l) h i = absurd (sole-missing i (l .lacking))
 
   -- ---- every plan that the library makes is ready
-  pub plan-ready : (r : Region chip) (call : Call) (q : Plan) → answer call (snapshot r) ≡ plan q → Ready r q
+  pub plan-ready : (r : Region chip) (call : Call) (q : Plan) → answer call (snapshot r) ≡ plan q → AsMade (Ready r) q
   unfolding planByRules recovery
   plan-ready r for-recovery q e = recovery-ready r (pairCase chip (view r)) q (case-says r) (plan-asked r for-recovery q e .first)
   plan-ready r (for-update w) q e =
       let h = plan-asked r (for-update w) q e in
       let a = update-reads r w q h in
       let s = reading-settled r (a .0) (a .1) (a .2) (a .3) in
-      go (updates r (a .0) (a .1) (a .2) w q (s .0) (s .1) h) (s .0) (s .1)
+      let u = updates r (a .0) (a .1) (a .2) w q (s .0) (s .1) h in
+      (u .0, u .1, go (u .2) (s .0) (s .1))
     where
-      go : {o n : Table} {p m : ℕ} {q : Plan} → Update chip o n p m q → Sole r Primary p o → Sole r Mirror m o → Ready r q
+      go : {o n : Table} {p m : ℕ} {j : Job} → Update chip o n p m j → Sole r Primary p o → Sole r Mirror m o → Ready r j
       go (no-news z) x y = nothing-to-do x y refl
       go (news z) x y = both-to-place x y (z .full)

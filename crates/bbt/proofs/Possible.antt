@@ -1,5 +1,5 @@
--- Nothing is left out of the histories: each page can be left as a step allows (`Putting`), its page image is of bytes (`AllBytes`), and
--- whether the new primary is complete can be decided.
+-- Nothing is left out of the histories: each page can be left as a step allows (`Putting`), its page image is of bytes (`AllBytes`), whether
+-- a new primary stands can be decided, and planning anew answers a plan or a refusal.
 -- Assumes nothing.
 use mathlib.Core.Bool.{Bool, true, false, true≢false}
 use mathlib.Core.List.{List, [], _∷_, _++_}
@@ -9,19 +9,20 @@ use Prim.Native.Nat.{ℕ, zero, suc, _+_, _<_, _≤_}
 use native.Mathlib.Decide.{ℕ-discrete}
 use native.Mathlib.Omega.{arith}
 use lib.Dec.{lit<}
-use lib.ListN.{length, take, drop, replicate, length-append, length-take, length-drop, length-replicate}
-use lib.Seq.{take-at, drop-append-add}
+use lib.ListN.{length, take, drop, getD, replicate, length-append, length-take, length-drop, length-replicate}
+use lib.Seq.{take-at, drop-append-add, getD-append-add}
 use Rattle.chip.specs.Large.{pagesOf}
 use Rattle.chip.specs.declared.LargeChip.{LargeChip}
 use Rattle.chip.specs.declared.Refusal.{Refusal}
 use Rattle.bbt.specs.declared.Kind.the-variants.{Primary}
-use Rattle.bbt.specs.Histories.{Written, Done, Cut, OthersKept, Last, one-table, pending, closed, Closes, as-one, as-closed, was-complete, was-not, AfterStep, Snapshot, asked, step-done, step-cut, asPlanned, Hand, snapshot, answer, holding, empty, World, world, Event, plan-refused, update-planned, recovery-planned, cut-between, no-step-left, no-plan}
+use Rattle.bbt.specs.Copies.{Table}
+use Rattle.bbt.specs.Histories.{Written, Done, Cut, OthersKept, Last, one-table, pending, closed, Closes, as-one, as-closed, was-complete, was-not, AfterStep, Snapshot, asked, step-done, step-cut, step-failed, step-given-up, asPlanned, Hand, snapshot, withFailed, answer, holding, empty, World, world, Event, plan-refused, update-planned, recovery-planned, cut-between, no-step-left, no-plan}
 use Rattle.bbt.specs.Images.{Imaged, page-image, pageImage}
 use Rattle.bbt.specs.Pairs.{same}
-use Rattle.bbt.specs.Plans.{Step, erase, write, Call, for-update, Plan, stepsOf, refuse, plan, updated, for-recovery}
-use Rattle.bbt.specs.Possible.{Bytes, Left, as-it-was, left-blank, left-complete, left-unreadable, CutAllows, DoneAllows, IsLeft, AreLeft, CanHappen, planning, stepping, Can, NoStep, NothingLeftOut}
+use Rattle.bbt.specs.Plans.{Step, erase, write, zeros, Call, for-update, Plan, stepsOf, Answer, refuse, plan, updated, for-recovery}
+use Rattle.bbt.specs.Possible.{Bytes, Left, as-it-was, left-blank, left-complete, left-unreadable, left-zeroed, AnyLost, AnyZeroed, CutAllows, DoneAllows, IsLeft, AreLeft, CanFail, CanHappen, planning, stepping, Can, NoStep, NothingLeftOut}
 use Rattle.bbt.specs.PowerCuts.{ImageOf, Harmless, regionOf}
-use Rattle.bbt.specs.Regions.{Region, statusAt, bytesAt, Blank, Complete, Unreadable, Kept}
+use Rattle.bbt.specs.Regions.{Region, statusAt, bytesAt, NotZeroed, Blank, Complete, Zeroed, Unreadable, Lost, Kept}
 use Rattle.bbt.proofs.LeftPages.{Judged, judge}
 use Rattle.bbt.proofs.Numbering.{started, tracked}
 use Rattle.bbt.proofs.Outcomes.{kept-refl, kept-trans, complete-kept, blank-kept}
@@ -29,7 +30,7 @@ use Rattle.bbt.proofs.Planning.{plan-asked, update-reads}
 use Rattle.bbt.proofs.PowerCuts.{demand3}
 use Rattle.bbt.proofs.Putting.{put-page}
 use Rattle.bbt.proofs.Searches.{no-confusion, below-suc, all-or-some, same-refl, same-eq}
-use Rattle.bbt.proofs.AllBytes.{bytes-append, bytes-replicate, bytes-take, bytes-drop, StepOfBytes, bytes-next, image-bytes}
+use Rattle.bbt.proofs.AllBytes.{below-replicate, bytes-append, bytes-replicate, bytes-take, bytes-drop, StepOfBytes, bytes-next, image-bytes}
 
 dec-list : (l m : List ℕ) → Dec (l ≡ m)
 dec-list l m = go (same l m) refl
@@ -76,6 +77,25 @@ module _ (l oob : List ℕ) (page : Bytes 2112 l) (free : Bytes 14 oob) where
   filled-tail =
       filled-from 14 ∙ subst (λ (m : ℕ). drop (m + 0) (oob ++ drop 2062 l) ≡ drop 2062 l) (free .as-many) (drop-append-add oob (drop 2062 l) 0)
 
+-- ---- a page with zeros: any data bytes before them
+module _ (d : List ℕ) (free : Bytes 2048 d) where
+  abbrev zeroed : List ℕ
+  zeroed = d ++ replicate 64 0
+
+  zeroed-bytes : Bytes 2112 zeroed
+  zeroed-bytes = record {
+    as-many = omega (arith, length-append d (replicate 64 0), length-replicate {A = ℕ} 64 0, free .as-many);
+    below-256 = bytes-append d (replicate 64 0) (free .below-256) (below-replicate 64 0 256 (lit< tt));
+  }
+
+  zeroed-data : take 2048 zeroed ≡ d
+  zeroed-data = take-at d (replicate 64 0) 2048 (free .as-many)
+
+  zeroed-oob : (j : ℕ) → getD zeroed (2048 + j) 0 ≡ 0
+  zeroed-oob j =
+      let zero : getD (replicate 64 0) j 0 < 1 = below-replicate 64 0 1 (lit< tt) j in
+      subst (λ (n : ℕ). _≡_ {A = ℕ} (getD zeroed (n + j) 0) 0) (free .as-many) (getD-append-add d (replicate 64 0) j 0 ∙ omega arith)
+
 -- ---- a page left as a step allows
 -- what it takes: bytes to put there
 abbrev Takes : Imaged → Left → Type 0
@@ -83,21 +103,30 @@ Takes x as-it-was = Unit {0}
 Takes x left-blank = Unit {0}
 Takes x (left-complete oob) = Bytes 14 oob × (l : List ℕ) × Bytes 2112 l × (x ≡ page-image l)
 Takes x (left-unreadable l) = Bytes 2112 l
+Takes x (left-zeroed s d) = AnyZeroed s d
 
 -- a step has what it takes for all that it allows
 done-takes : (x : Imaged) (e : Step) (f : Left) → ImageOf e x → StepOfBytes e → DoneAllows e f → Takes x f
 done-takes x (erase b) f im by e = rw e tt
 done-takes x (write b p k t) f im by (oob, free, e) = rw e (free, pageImage k t p, image-bytes k t p by, im)
+done-takes x (zeros b) f im by (s, d, free, e) = rw e free
 
-cut-takes : (x : Imaged) (e : Step) (f : Left) → ImageOf e x → StepOfBytes e → CutAllows e f → Takes x f
-cut-takes x (erase b) as-it-was im by h = tt
-cut-takes x (erase b) left-blank im by h = tt
-cut-takes x (erase b) (left-complete oob) im by h = absurd h
-cut-takes x (erase b) (left-unreadable l) im by h = h
-cut-takes x (write b p k t) as-it-was im by h = absurd h
-cut-takes x (write b p k t) left-blank im by h = tt
-cut-takes x (write b p k t) (left-complete oob) im by h = (h, pageImage k t p, image-bytes k t p by, im)
-cut-takes x (write b p k t) (left-unreadable l) im by h = h
+cut-takes : (x : Imaged) (e : Step) (p : ℕ) (f : Left) → ImageOf e x → StepOfBytes e → CutAllows e p f → Takes x f
+cut-takes x (erase b) p as-it-was im by h = tt
+cut-takes x (erase b) p left-blank im by h = tt
+cut-takes x (erase b) p (left-complete oob) im by h = absurd h
+cut-takes x (erase b) p (left-unreadable l) im by h = h .0
+cut-takes x (erase b) p (left-zeroed s d) im by h = absurd h
+cut-takes x (write b q k t) p as-it-was im by h = absurd h
+cut-takes x (write b q k t) p left-blank im by h = tt
+cut-takes x (write b q k t) p (left-complete oob) im by h = (h, pageImage k t q, image-bytes k t q by, im)
+cut-takes x (write b q k t) p (left-unreadable l) im by h = h .0
+cut-takes x (write b q k t) p (left-zeroed s d) im by h = absurd h
+cut-takes x (zeros b) p as-it-was im by h = tt
+cut-takes x (zeros b) p left-blank im by h = absurd h
+cut-takes x (zeros b) p (left-complete oob) im by h = absurd h
+cut-takes x (zeros b) p (left-unreadable l) im by h = h
+cut-takes x (zeros b) p (left-zeroed s d) im by h = h
 
 module _ {chip : LargeChip} where
   -- one page, all others kept
@@ -132,6 +161,17 @@ module _ {chip : LargeChip} where
   leave x (left-unreadable l) r b p hb hp h =
       let w = put-page r b p l 1 hb hp h (lit< tt) in
       record { s = w .s; is-left = (record { fails = w .here-status }, w .here-bytes); others = w .others }
+  leave x (left-zeroed v d) r b p hb hp (hv, free) =
+      let w = put-page r b p (d ++ replicate 64 0) v hb hp (zeroed-bytes d free) hv in
+      record {
+        s = w .s;
+        is-left = (
+          record { zero-oob = λ j l. ap (λ (m : List ℕ). getD m (2048 + j) 0) (w .here-bytes) ∙ zeroed-oob d free j },
+          w .here-status,
+          ap (take 2048) (w .here-bytes) ∙ zeroed-data d free,
+        );
+        others = w .others;
+      }
 
   -- ---- the first n pages of a block
   left-kept : (x : Imaged) (f : Left) (r : Region chip) {s u : Region chip} {b p : ℕ} → Kept s u b p → IsLeft x f r s b p → IsLeft x f r u b p
@@ -140,12 +180,18 @@ module _ {chip : LargeChip} where
   left-kept x (left-complete oob) r k (w, e) =
       (record { page = w .page; given = w .given; complete = complete-kept k (w .complete) }, ap (λ (m : List ℕ). take 14 (drop 2048 m)) (k .same-bytes) ∙ e)
   left-kept x (left-unreadable l) r k (w, e) = (record { fails = k .same-status ∙ w .fails }, k .same-bytes ∙ e)
+  left-kept x (left-zeroed v d) r k (w, e, f) = (
+    record { zero-oob = λ j l. ap (λ (m : List ℕ). getD m (2048 + j) 0) (k .same-bytes) ∙ w .zero-oob j l },
+    k .same-status ∙ e,
+    ap (take 2048) (k .same-bytes) ∙ f,
+  )
 
   left-since : (x : Imaged) (f : Left) {r s : Region chip} (u : Region chip) {b p : ℕ} → Kept r s b p → IsLeft x f s u b p → IsLeft x f r u b p
   left-since x as-it-was u k h = kept-trans k h
   left-since x left-blank u k h = h
   left-since x (left-complete oob) u k h = h
   left-since x (left-unreadable l) u k h = h
+  left-since x (left-zeroed v d) u k h = h
 
   record PagesLeft (x : Imaged) (left : ℕ → Left) (r : Region chip) (b n : ℕ) : Type 0 where
     s : Region chip
@@ -170,7 +216,7 @@ module _ {chip : LargeChip} where
         others = λ c q hc hq ne. kept-trans (a .others c q hc hq ne) (w .others c q hc hq (λ t. ne (t .0)));
       }
 
-  -- ---- the new primary is complete or not
+  -- ---- a new primary stands or not
   dec-complete : (r : Region chip) (b p : ℕ) (l : List ℕ) → Complete r b p l ⊎ (¬ Complete r b p l)
   dec-complete r b p l =
       go (ℕ-discrete (statusAt r b p) 0) (dec-list (take 2048 (bytesAt r b p)) (take 2048 l)) (dec-list (drop 2062 (bytesAt r b p)) (drop 2062 l))
@@ -182,14 +228,25 @@ module _ {chip : LargeChip} where
       go (yes x) (yes y) (no n) = inr (λ h. n (h .oob-as-asked))
       go (yes x) (yes y) (yes z) = inl (record { well = x; data-as-asked = y; oob-as-asked = z })
 
+  -- in block b
+  abbrev PrimaryAt : Region chip → Table → ℕ → Type 0
+  PrimaryAt r n b = (p : ℕ) → p < pagesOf chip → Complete r b p (pageImage Primary n p)
+
+  dec-primary : (r : Region chip) (n : Table) (b : ℕ) → (¬ PrimaryAt r n b) ⊎ PrimaryAt r n b
+  dec-primary r n b =
+      elim (all-or-some (pagesOf chip) (λ p. Complete r b p (pageImage Primary n p)) (λ p. ¬ Complete r b p (pageImage Primary n p))
+      (λ p l. dec-complete r b p (pageImage Primary n p))) [
+        | inl h ↦ inr h
+        | inr h ↦ inl (λ w. h .2 (w (h .0) (h .1)))
+      ]
+
   can-close : (r : Region chip) (l : Last) → (l′ : Last) × Closes r l l′
   can-close r (one-table t) = (one-table t, as-one)
   can-close r (closed o n w) = (closed o n w, as-closed)
-  can-close r (pending o n b) =
-      elim (all-or-some (pagesOf chip) (λ p. Complete r b p (pageImage Primary n p)) (λ p. ¬ Complete r b p (pageImage Primary n p))
-      (λ p l. dec-complete r b p (pageImage Primary n p))) [
-        | inl h ↦ (closed o n true, was-complete h)
-        | inr h ↦ (closed o n false, was-not (λ w. h .2 (w (h .0) (h .1))))
+  can-close r (pending o n) =
+      elim (all-or-some (chip .region) (λ b. ¬ PrimaryAt r n b) (PrimaryAt r n) (λ b l. dec-primary r n b)) [
+        | inl h ↦ (closed o n false, was-not (λ w. h (w .block) (w .in-region) (w .whole)))
+        | inr h ↦ (closed o n true, was-complete (record { block = h .0; in-region = h .1; whole = h .2 }))
       ]
 
   after-step : (s : Region chip) (es : List Step) (l : Last) → (l′ : Last) × AfterStep s es l l′
@@ -203,44 +260,64 @@ module _ {chip : LargeChip} where
     is-left : AreLeft x left e r s
     others : OthersKept e r s
 
-  leave-step : (x : Imaged) (left : ℕ → Left) (e : Step) (r : Region chip) → Harmless r e → chip .region ≤ chip .blocks → ((p : ℕ) → Takes x (left p)) → Stepped x left e r
-  leave-step x left (erase b) r h w can =
-      let a = leave-pages x left can r b (omega (arith, h .0 .1)) (pagesOf chip) (omega arith) in
+  leave-step : (x : Imaged) (left : ℕ → Left) (e : Step) (r : Region chip) → Judged chip → Harmless r e → ((p : ℕ) → Takes x (left p)) → Stepped x left e r
+  leave-step x left (erase b) r ok h can =
+      let a = leave-pages x left can r b (omega (arith, h .0 .1, ok .within)) (pagesOf chip) (omega arith) in
       record { s = a .s; is-left = a .is-left; others = a .others }
-  leave-step x left (write b p k t) r h w can =
-      let a = leave x (left p) r b p (omega (arith, h .0 .1)) (h .1) (can p) in
+  leave-step x left (write b p k t) r ok h can =
+      let a = leave x (left p) r b p (omega (arith, h .0 .1, ok .within)) (h .1) (can p) in
+      record { s = a .s; is-left = a .is-left; others = a .others }
+  leave-step x left (zeros b) r ok h can =
+      let a = leave x (left 0) r b 0 (omega (arith, h .1, ok .within)) (ok .some-page) (can 0) in
       record { s = a .s; is-left = a .is-left; others = a .others }
 
-  -- and so left, they are what a step, done or cut, leaves
+  -- and so left, they are what a step leaves, done, cut or failed
   left-done : (x : Imaged) (left : ℕ → Left) (e : Step) (r s : Region chip) → ((p : ℕ) → DoneAllows e (left p)) → AreLeft x left e r s → Done x e s
   left-done x left (erase b) r s ok h = λ p l. rw (ok p) at (h p l)
   left-done x left (write b p k t) r s ok h = go (left p) (ok p) h
     where
       go : (f : Left) → DoneAllows (write b p k t) f → IsLeft x f r s b p → Written s b p x
       go f (oob, free, e) h = let z : IsLeft x (left-complete oob) r s b p = rw e at h in z .0
+  left-done x left (zeros b) r s ok h = go (left 0) (ok 0) h
+    where
+      go : (f : Left) → DoneAllows (zeros b) f → IsLeft x f r s b 0 → Zeroed s b 0
+      go f (v, d, free, e) h = let z : IsLeft x (left-zeroed v d) r s b 0 = rw e at h in z .0
 
-  left-cut : (x : Imaged) (left : ℕ → Left) (e : Step) (r s : Region chip) → ((p : ℕ) → CutAllows e (left p)) → AreLeft x left e r s → Cut x e r s
+  left-lost : {s : Region chip} {b p : ℕ} {l : List ℕ} → AnyLost p l → Unreadable s b p → bytesAt s b p ≡ l → Lost s b p
+  left-lost ok w e = record { fails = w .fails; shows = λ z. subst (λ (l : List ℕ). NotZeroed l) (sym e) (ok .1 z) }
+
+  left-cut : (x : Imaged) (left : ℕ → Left) (e : Step) (r s : Region chip) → ((p : ℕ) → CutAllows e p (left p)) → AreLeft x left e r s → Cut x e r s
   left-cut x left (erase b) r s ok h = λ p l. go p (left p) (ok p) (h p l)
     where
-      go : (p : ℕ) (f : Left) → CutAllows (erase b) f → IsLeft x f r s b p → Kept r s b p ⊎ (Blank s b p ⊎ Unreadable s b p)
+      go : (p : ℕ) (f : Left) → CutAllows (erase b) p f → IsLeft x f r s b p → Kept r s b p ⊎ (Blank s b p ⊎ Lost s b p)
       go p as-it-was ok h = inl h
       go p left-blank ok h = inr (inl h)
       go p (left-complete oob) ok h = absurd ok
-      go p (left-unreadable l) ok h = inr (inr (h .0))
+      go p (left-unreadable l) ok h = inr (inr (left-lost ok (h .0) (h .1)))
+      go p (left-zeroed v d) ok h = absurd ok
   left-cut x left (write b p k t) r s ok h = go (left p) (ok p) h
     where
-      go : (f : Left) → CutAllows (write b p k t) f → IsLeft x f r s b p → Blank s b p ⊎ (Written s b p x ⊎ Unreadable s b p)
+      go : (f : Left) → CutAllows (write b p k t) p f → IsLeft x f r s b p → Blank s b p ⊎ (Written s b p x ⊎ Lost s b p)
       go as-it-was ok h = absurd ok
       go left-blank ok h = inl h
       go (left-complete oob) ok h = inr (inl (h .0))
+      go (left-unreadable l) ok h = inr (inr (left-lost ok (h .0) (h .1)))
+      go (left-zeroed v d) ok h = absurd ok
+  left-cut x left (zeros b) r s ok h = go (left 0) (ok 0) h
+    where
+      go : (f : Left) → CutAllows (zeros b) 0 f → IsLeft x f r s b 0 → Kept r s b 0 ⊎ (Zeroed s b 0 ⊎ Unreadable s b 0)
+      go as-it-was ok h = inl h
+      go left-blank ok h = absurd ok
+      go (left-complete oob) ok h = absurd ok
       go (left-unreadable l) ok h = inr (inr (h .0))
+      go (left-zeroed v d) ok h = inr (inl (h .0))
 
   -- ---- plans
   can-plan : Judged chip → (r : Region chip) (h : Hand chip) (l : Last) (call : Call) (q : Plan) → answer call (snapshot r) ≡ plan q
       → (l′ : Last) × Can r l h (planning call) (world r (holding call (snapshot r) 0 (stepsOf (pagesOf chip) q)) l′)
   can-plan ok r h l (for-update w) q e =
       let s = update-reads ok r w q (plan-asked ok r (for-update w) q e) in
-      (asPlanned (s .2) (updated (s .2) w) q, (update-planned w (s .0) (s .1) (s .2) q e (s .3), refl))
+      (asPlanned (s .2) (updated (s .2) w) (q .job), (update-planned w (s .0) (s .1) (s .2) q e (s .3), refl))
   can-plan ok r h l for-recovery q e = let z = can-close r l in (z .0, (recovery-planned q (z .0) e (z .1), refl))
 
   -- ---- a refused plan
@@ -259,6 +336,8 @@ module _ {chip : LargeChip} where
   must-refuse r h l call x w a (step-done s l′ o d en, k) = absurd (no-confusion (cc))
   must-refuse r h l call x w a (step-cut s l′ o d cl, k) = absurd (no-confusion (cc))
   must-refuse r h l call x w a (cut-between l′ cl, k) = absurd (no-confusion (cc))
+  must-refuse r h l call x w a (step-failed s q o d e, k) = absurd (no-confusion (cc))
+  must-refuse r h l call x w a (step-given-up s l′ y o d e cl, k) = absurd (no-confusion (cc))
   must-refuse r h l call x w a (no-step-left, k) = absurd (no-confusion (cc))
   must-refuse r h l call x w a (no-plan, k) = absurd (no-confusion (cc))
 
@@ -275,6 +354,8 @@ module _ {chip : LargeChip} where
   must-idle r h l w n (step-done s l′ o d en, k) = absurd n
   must-idle r h l w n (step-cut s l′ o d cl, k) = absurd n
   must-idle r h l w n (cut-between l′ cl, k) = absurd (no-confusion (cc))
+  must-idle r h l w n (step-failed s q o d e, k) = absurd n
+  must-idle r h l w n (step-given-up s l′ x o d e cl, k) = absurd n
   must-idle r h l w n (no-step-left, k) = refl
   must-idle r h l w n (no-plan, k) = refl
 
@@ -285,20 +366,35 @@ module _ {chip : LargeChip} where
   idle-page r h l w n (step-done s l′ k d en) = absurd n
   idle-page r h l w n (step-cut s l′ k d cl) = absurd n
   idle-page r h l w n (cut-between l′ cl) = refl
+  idle-page r h l w n (step-failed s q k d e) = absurd n
+  idle-page r h l w n (step-given-up s l′ x k d e cl) = absurd n
   idle-page r h l w n no-step-left = refl
   idle-page r h l w n no-plan = refl
+
+  -- ---- the next step, done, cut and failed
+  -- planning anew answers a plan or a refusal, and each leads on
+  can-fail : (r : Region chip) (l : Last) (c : Call) (a : Snapshot chip) (i : ℕ) (e : Step) (es : List Step) (s : Region chip) → OthersKept e r s
+      → Cut (asked c a i) e r s → CanFail r l c a i e es s
+  can-fail r l c a i e es s k d = go (answer c (withFailed a i)) refl
+    where
+      go : (x : Answer) → answer c (withFailed a i) ≡ x → CanFail r l c a i e es s
+      go (plan q) z = inl (q, z, (step-failed s q k d z, refl))
+      go (refuse x) z = let w = can-close s l in inr (x, w .0, z, (step-given-up s (w .0) x k d z (w .1), refl))
 
   can-happen : Judged chip → (r : Region chip) (l : Last) (c : Call) (a : Snapshot chip) (i : ℕ) (e : Step) (es : List Step) → Harmless r e
       → ImageOf e (asked c a i) → StepOfBytes e → CanHappen r l c a i e es
   can-happen ok r l c a i e es h im by = record {
     done = λ left allows.
-        let w = leave-step (asked c a i) left e r h (ok .within) (λ p. done-takes (asked c a i) e (left p) im by (allows p)) in
+        let w = leave-step (asked c a i) left e r ok h (λ p. done-takes (asked c a i) e (left p) im by (allows p)) in
         let z = after-step (w .s) es l in
         (w .s, z .0, w .is-left, (step-done (w .s) (z .0) (w .others) (left-done (asked c a i) left e r (w .s) allows (w .is-left)) (z .1), refl));
     cut = λ left allows.
-        let w = leave-step (asked c a i) left e r h (ok .within) (λ p. cut-takes (asked c a i) e (left p) im by (allows p)) in
+        let w = leave-step (asked c a i) left e r ok h (λ p. cut-takes (asked c a i) e p (left p) im by (allows p)) in
         let z = can-close (w .s) l in
         (w .s, z .0, w .is-left, (step-cut (w .s) (z .0) (w .others) (left-cut (asked c a i) left e r (w .s) allows (w .is-left)) (z .1), refl));
+    fail = λ left allows.
+        let w = leave-step (asked c a i) left e r ok h (λ p. cut-takes (asked c a i) e p (left p) im by (allows p)) in
+        (w .s, w .is-left, can-fail r l c a i e es (w .s) (w .others) (left-cut (asked c a i) left e r (w .s) allows (w .is-left)));
   }
 
 pub nothing-left-out : NothingLeftOut

@@ -14,8 +14,8 @@ use borrow.Author.Tests.{eqb-true, eq-eqb}
 use lib.Dec.{eqb}
 use lib.ListN.{length}
 use Rattle.bits.proofs.Both.{both-left, both-right, both-intro}
-use Rattle.bbt.specs.Copies.{all, parts, pagePart, Found, nowhere, only, several, also, find, highest}
-use Rattle.bbt.specs.Pages.{Page}
+use Rattle.bbt.specs.Copies.{parts, pagePart, Found, nowhere, only, several, also, find, highest}
+use Rattle.bbt.specs.Pages.{all, Page}
 use Rattle.bbt.specs.Pairs.{same}
 
 -- what `cc` makes of two values by different constructors

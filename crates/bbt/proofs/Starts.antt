@@ -8,7 +8,7 @@ use Prim.Native.Nat.{ℕ, zero, suc, _+_, _*_, _<_, _≤_}
 use native.Mathlib.Nat.{mul-le-mul-right}
 use native.Mathlib.Omega.{arith}
 use lib.Dec.{lit<}
-use lib.ListN.{length, take, drop, getD, replicate, length-replicate, getD-replicate}
+use lib.ListN.{length, take, drop, replicate, length-replicate, getD-replicate}
 use Rattle.chip.specs.Large.{bitmapBytes, pagesOf, regionPages, regionBytes}
 use Rattle.chip.specs.declared.LargeChip.{LargeChip}
 use Rattle.bbt.specs.declared.Kind.{Kind}
@@ -18,29 +18,24 @@ use Rattle.bbt.specs.Plans.{reading, holds}
 use Rattle.bbt.specs.PowerCuts.{settled-at}
 use Rattle.bbt.specs.Regions.{Region, view, Unreadable}
 use Rattle.bbt.specs.Starts.{AnyTable, StartsAnywhere}
-use Rattle.bbt.proofs.AllBytes.{TableOfBytes, image-bytes}
+use Rattle.bbt.proofs.AllBytes.{below-replicate, TableOfBytes, image-bytes}
 use Rattle.bbt.proofs.Blocks.{not-good, good-not-twin}
 use Rattle.bbt.proofs.Forms.{Sole, Missing, Frame, sole-kept, missing-kept, sole-new, missing-clear, whole-copy}
 use Rattle.bbt.proofs.LeftPages.{Judged, judge, Twin, twin-sym, primary-kind, mirror-kind, Stands}
-use Rattle.bbt.proofs.Outcomes.{unreadable-foreign, kept-refl, kept-trans, complete-kept}
+use Rattle.bbt.proofs.Outcomes.{zeroed-foreign, kept-refl, kept-trans, complete-kept}
 use Rattle.bbt.proofs.Planning.{settled-reading}
 use Rattle.bbt.proofs.Putting.{put-page}
 use Rattle.bbt.proofs.Searches.{below-suc, find-none}
 
 -- ---- a region whose pages are all unreadable
-below-replicate : (n i v d : ℕ) → v < d → 0 < d → getD (replicate n v) i 0 < d
-below-replicate zero i v d h z = z
-below-replicate (suc n) zero v d h z = h
-below-replicate (suc n) (suc i) v d h z = below-replicate n i v d h z
-
 abbrev none-read : (chip : LargeChip) → Region chip
 none-read chip = record {
   image = replicate (regionBytes chip) 0;
   status = replicate (regionPages chip) 1;
   image-length = length-replicate {A = ℕ} (regionBytes chip) 0;
   status-length = length-replicate {A = ℕ} (regionPages chip) 1;
-  image-bytes = λ i. below-replicate (regionBytes chip) i 0 256 (lit< tt) (lit< tt);
-  status-bits = λ i. below-replicate (regionPages chip) i 1 2 (lit< tt) (lit< tt);
+  image-bytes = below-replicate (regionBytes chip) 0 256 (lit< tt);
+  status-bits = below-replicate (regionPages chip) 1 2 (lit< tt);
 }
 
 none-reads : (chip : LargeChip) (b p : ℕ) → b < chip .region → p < pagesOf chip → Unreadable (none-read chip) b p
@@ -54,7 +49,7 @@ module _ {chip : LargeChip} (ok : Judged chip) where
       record {
         not-found = find-none (chip .region) (good (pagesOf chip) (view (none-read chip)) k)
             (λ b l. not-good (pagesOf chip) (ok .some-page) (view (none-read chip)) b k j o 0 (ok .some-page)
-            (unreadable-foreign k (none-reads chip b 0 l (ok .some-page))));
+            (zeroed-foreign k (inr (none-reads chip b 0 l (ok .some-page)))));
       }
 
   -- ---- the first n pages of a copy of t, put into block b

@@ -11,16 +11,19 @@ use lib.Dec.{leb, ltb}
 use lib.ListN.{length}
 use Rattle.chip.specs.Large.{pagesOf}
 use Rattle.chip.specs.declared.ChipBlock.{ChipBlock}
+use Rattle.chip.specs.declared.RegionBlock.{RegionBlock}
 use Rattle.chip.specs.declared.LargeChip.{LargeChip}
 use Rattle.bbt.specs.declared.Kind.{Kind}
 use Rattle.bbt.specs.declared.Kind.the-variants.{Primary, Mirror}
+use Rattle.bbt.specs.declared.Retired.{Retired}
+use Rattle.bbt.specs.declared.Retired.the-variants.{Nothing, Block}
 use Rattle.bbt.specs.declared.Shape.{Shape}
 use Rattle.bbt.specs.declared.Shape.the-variants.{Empty, One, Both}
 use Rattle.bbt.specs.declared.Step.{Step}
-use Rattle.bbt.specs.declared.Step.the-variants.{Erase, Write, Past}
+use Rattle.bbt.specs.declared.Step.the-variants.{Erase, Write, Zero, Past}
 use Rattle.bbt.specs.Copies.{Table}
-use Rattle.bbt.specs.Plans.{Step as RuleStep, idle, single, double, writes, copySteps, stepsOf}
-use Rattle.bbt.specs.Told.{chipBlock, toldStep, toldWrites, toldCopy, stepsBy, TellsSteps, copyStep, nthStep}
+use Rattle.bbt.specs.Plans.{Step as RuleStep, Job, idle, single, double, writes, copySteps, jobSteps, zeroFirst}
+use Rattle.bbt.specs.Told.{chipBlock, toldShape, toldRetired, toldStep, toldWrites, toldCopy, stepsBy, retiredFirst, TellsSteps, copyStep, nthStep}
 
 -- past a list's end there is no step
 pub nth-past : (es : List Step) (i : ℕ) → length es ≤ i → nthStep es i ≡ Past
@@ -87,31 +90,50 @@ module _ (P : ℕ) (b : ChipBlock) (k : Kind) (c : ChipBlock) (j : Kind) where
           ∙ copy-at c j [] P (i - P - 1) (omega (arith, leb-false i P e, ltb-false (2 * P + 1) i f))
 
 -- ---- a plan's steps by its shape, as the code tells them apart
-abbrev pub countBy : ℕ → Shape → ℕ
-countBy P Empty = 0
-countBy P (One k b) = P + 1
-countBy P (Both p m) = 2 * P + 2
+module _ (chip : LargeChip) where
+  abbrev pub countBy : Shape → ℕ
+  countBy Empty = 0
+  countBy (One k b g) = pagesOf chip + 1
+  countBy (Both p m) = 2 * pagesOf chip + 2
 
-pub count-by : (P : ℕ) (s : Shape) → length (stepsBy P s) ≡ countBy P s
-unfolding stepsBy
-count-by P Empty = refl
-count-by P (One k b) = copy-length b k [] P ∙ add-zero (P + 1)
-count-by P (Both p m) = two-length P _ _ _ _
+  pub count-by : (s : Shape) → length (stepsBy chip s) ≡ countBy s
+  unfolding stepsBy
+  count-by Empty = refl
+  count-by (One k b g) = copy-length _ k [] (pagesOf chip) ∙ add-zero (pagesOf chip + 1)
+  count-by (Both p m) = two-length (pagesOf chip) _ _ _ _
 
-abbrev pub stepBy : ℕ → Shape → ℕ → Step
-stepBy P Empty i = Past
-stepBy P (One k b) i = cond (ltb P i) Past (copyStep k b i)
-stepBy P (Both p m) i = cond (leb i P) (copyStep Primary p i) (cond (ltb (2 * P + 1) i) Past (copyStep Mirror m (i - P - 1)))
+  abbrev pub stepBy : Shape → ℕ → Step
+  stepBy Empty i = Past
+  stepBy (One k b g) i = cond (ltb (pagesOf chip) i) Past (copyStep k (chipBlock chip (b .0)) i)
+  stepBy (Both p m) i =
+      cond (leb i (pagesOf chip)) (copyStep Primary (chipBlock chip (p .0)) i)
+      (cond (ltb (2 * pagesOf chip + 1) i) Past (copyStep Mirror (chipBlock chip (m .0)) (i - pagesOf chip - 1)))
 
-pub step-by : (P : ℕ) (s : Shape) (i : ℕ) → nthStep (stepsBy P s) i ≡ stepBy P s i
-unfolding stepsBy
-step-by P Empty i = nth-past [] i (omega arith)
-step-by P (One k b) i = go (ltb P i) refl
-  where
-    go : (t : Bool) → ltb P i ≡ t → nthStep (toldCopy P b k []) i ≡ cond t Past (copyStep k b i)
-    go true e = nth-past (toldCopy P b k []) i (omega (arith, copy-length b k [] P, ltb-true P i e))
-    go false e = copy-at b k [] P i (ltb-false P i e)
-step-by P (Both p m) i = two-at P _ _ _ _ i
+  one-by : (k : Kind) (b : ChipBlock) (i : ℕ) → nthStep (toldCopy (pagesOf chip) b k []) i ≡ cond (ltb (pagesOf chip) i) Past (copyStep k b i)
+  one-by k b i = go (ltb (pagesOf chip) i) refl
+    where
+      go : (t : Bool) → ltb (pagesOf chip) i ≡ t → nthStep (toldCopy (pagesOf chip) b k []) i ≡ cond t Past (copyStep k b i)
+      go true e = nth-past (toldCopy (pagesOf chip) b k []) i (omega (arith, copy-length b k [] (pagesOf chip), ltb-true (pagesOf chip) i e))
+      go false e = copy-at b k [] (pagesOf chip) i (ltb-false (pagesOf chip) i e)
+
+  pub step-by : (s : Shape) (i : ℕ) → nthStep (stepsBy chip s) i ≡ stepBy s i
+  unfolding stepsBy
+  step-by Empty i = nth-past [] i (omega arith)
+  step-by (One k b g) i = one-by k (chipBlock chip (b .0)) i
+  step-by (Both p m) i = two-at (pagesOf chip) _ _ _ _ i
+
+-- ---- zeros first, where a block is retired
+module _ (chip : LargeChip) where
+  pub zeros-count : (x : Retired) (es : List Step) → length (retiredFirst chip x es) ≡ length (retiredFirst chip x []) + length es
+  unfolding retiredFirst
+  zeros-count Nothing es = omega arith
+  zeros-count (Block b) es = omega arith
+
+  pub zeros-after : (x : Retired) (b : RegionBlock) → x ≡ Block b → (es : List Step) (i : ℕ) → 0 < i
+      → nthStep (retiredFirst chip x es) i ≡ nthStep es (i - 1)
+  unfolding retiredFirst nthStep
+  zeros-after x b is es zero h = absurd (omega arith)
+  zeros-after x b is es (suc i) h = rw is (ap (nthStep es) (omega arith))
 
 -- ---- what is told are the plan's steps
 writes-told : (chip : LargeChip) (t : Table) (k : Kind) (b : ℕ) (rest : List RuleStep) (n p : ℕ)
@@ -130,8 +152,19 @@ two-told : (chip : LargeChip) (t : Table) (k j : Kind) (b c P : ℕ)
 two-told chip t k j b c P =
     ap (toldCopy P (chipBlock chip b) k) (copy-told chip t j c [] P) ∙ copy-told chip t k b (copySteps P c j t []) P
 
+job-told : (chip : LargeChip) (j : Job) → stepsBy chip (toldShape j) ≡ map (toldStep chip) (jobSteps (pagesOf chip) j)
+unfolding stepsBy jobSteps
+job-told chip (idle v) = refl
+job-told chip (single k b g t) = copy-told chip t k b [] (pagesOf chip)
+job-told chip (double p m t) = two-told chip t _ _ _ _ (pagesOf chip)
+
+-- with zeros first
+zero-told : (chip : LargeChip) (bs : List ℕ) (es : List RuleStep)
+    → retiredFirst chip (toldRetired bs) (map (toldStep chip) es) ≡ map (toldStep chip) (zeroFirst bs es)
+unfolding retiredFirst
+zero-told chip [] es = refl
+zero-told chip (b ∷ bs) es = refl
+
 pub tells-steps : TellsSteps
-unfolding stepsBy stepsOf
-tells-steps chip (idle v) = refl
-tells-steps chip (single k b g t) = copy-told chip t k b [] (pagesOf chip)
-tells-steps chip (double p m t) = two-told chip t _ _ _ _ (pagesOf chip)
+tells-steps chip q =
+    ap (retiredFirst chip (toldRetired (q .failed))) (job-told chip (q .job)) ∙ zero-told chip (q .failed) (jobSteps (pagesOf chip) (q .job))

@@ -3,6 +3,7 @@
 -- Assumes nothing.
 use mathlib.Core.Bool.{Bool, true, false, cond}
 use mathlib.Core.List.{List, [], _∷_}
+use mathlib.Core.Option.{Option, none, some}
 use mathlib.Core.Path.{_≡_, refl, ap, ap₂, _∙_}
 use Prim.Native.Nat.{ℕ, zero, suc, _<_}
 use lib.Dec.{eqb}
@@ -13,9 +14,10 @@ use Rattle.chip.specs.declared.Refusal.the-variants.{Opposite}
 use Rattle.bbt.specs.declared.Kind.{Kind}
 use Rattle.bbt.specs.declared.Kind.the-variants.{Primary, Mirror}
 use Rattle.bbt.specs.Copies.{Table, pageVersion, isPage, isMarked, good, readsBad, parts, table, Found, nowhere, only, several}
+use Rattle.bbt.specs.Failures.{otherBlock, movedTo, blockFails, stepFails, failure, failures}
 use Rattle.bbt.specs.Pages.{Page, View}
 use Rattle.bbt.specs.Pairs.{Case, no-pair, alone, settled, merging, differing, bothCase, compared, caseOf, copies, pairCase}
-use Rattle.bbt.specs.Plans.{readCase, reading, updateFrom, update, isFree, target, otherKind, recoverTo, anded, recoverNewer, recoverCase, recovery, holds, plan, idle, double, Call, for-update, for-recovery, planByRules}
+use Rattle.bbt.specs.Plans.{readCase, reading, updateFrom, update, isFree, target, otherKind, recoverTo, anded, recoverNewer, recoverCase, recovery, holds, Step, erase, write, zeros, idle, double, Plan, fresh, stepsOf, stepAt, Answer, refuse, plan, Call, for-update, for-recovery, planByRules}
 use Rattle.bbt.proofs.Searches.{all-cong, parts-cong, find-cong, only-find, highest-cong}
 
 -- ---- the blocks that a case names
@@ -127,8 +129,8 @@ module _ (chip : LargeChip) (some-page : 0 < pagesOf chip) (R S : View)
   unfolding recoverCase
   recover-agrees (no-pair r) h = refl
   recover-agrees (alone k g) h = ap₂ (recoverTo (otherKind k) g) (tables-agree g (h .inside)) (targets-agree (g ∷ []))
-  recover-agrees (settled p m) h = ap (λ (t : Table). plan (idle (t .version))) (tables-agree p (h .0 .inside))
-  recover-agrees (merging p m) h = ap₂ (λ (x y : Table). plan (double p m (anded x y))) (tables-agree p (h .0 .inside)) (tables-agree m (h .1 .inside))
+  recover-agrees (settled p m) h = ap (λ (t : Table). plan (fresh (idle (t .version)))) (tables-agree p (h .0 .inside))
+  recover-agrees (merging p m) h = ap₂ (λ (x y : Table). plan (fresh (double p m (anded x y)))) (tables-agree p (h .0 .inside)) (tables-agree m (h .1 .inside))
   recover-agrees (differing d p m) h = ap₂ (λ (x y : Table). recoverNewer d x y p m) (tables-agree p (h .0 .inside)) (tables-agree m (h .1 .inside))
 
   pub reading-agrees : reading chip R ≡ reading chip S
@@ -139,3 +141,21 @@ module _ (chip : LargeChip) (some-page : 0 < pagesOf chip) (R S : View)
   unfolding planByRules update recovery
   plan-agrees (for-update w) = ap (updateFrom w) reading-agrees
   plan-agrees for-recovery = recover-agrees (pairCase chip R) (case-copies chip R) ∙ ap (recoverCase chip S) cases-agree
+
+  -- after failed steps
+  step-fails-agrees : (q : Plan) (e : Option Step) → stepFails chip R q e ≡ stepFails chip S q e
+  unfolding stepFails blockFails
+  step-fails-agrees q none = refl
+  step-fails-agrees q (some (erase b)) = ap (movedTo q b) (targets-agree (otherBlock (q .job) b ∷ b ∷ q .failed))
+  step-fails-agrees q (some (write b p k t)) = ap (movedTo q b) (targets-agree (otherBlock (q .job) b ∷ b ∷ q .failed))
+  step-fails-agrees q (some (zeros b)) = refl
+
+  failure-agrees : (a : Answer) (i : ℕ) → failure chip R a i ≡ failure chip S a i
+  unfolding failure
+  failure-agrees (refuse r) i = refl
+  failure-agrees (plan q) i = step-fails-agrees q (stepAt (stepsOf (pagesOf chip) q) i)
+
+  pub failures-agree : (a : Answer) (failed : List ℕ) → failures chip R a failed ≡ failures chip S a failed
+  unfolding failures
+  failures-agree a [] = refl
+  failures-agree a (i ∷ is) = ap (λ (x : Answer). failures chip R x is) (failure-agrees a i) ∙ failures-agree (failure chip S a i) is

@@ -5,7 +5,7 @@ use mathlib.Core.Option.{Option, none, some}
 use Prim.Native.Nat.{ℕ, zero, suc}
 use lib.Dec.{eqb}
 use Rattle.bbt.specs.declared.Kind.{Kind}
-use Rattle.bbt.specs.Pages.{Page, unreadable, marked, reads, sameKind, View}
+use Rattle.bbt.specs.Pages.{all, Page, unreadable, marked, reads, sameKind, View}
 
 -- a table: its version, and its bitmap of N/4 bytes
 pub record Table : Type 0 where
@@ -32,11 +32,6 @@ unfoldable pub isMarked : Page → Bool
 isMarked unreadable = false
 isMarked marked = true
 isMarked (reads k v d) = false
-
--- every number below n passes
-unfoldable pub all : ℕ → (ℕ → Bool) → Bool
-all zero f = true
-all (suc n) f = all n f && f n
 
 -- a good primary (mirror): its P pages all read well with that signature and one version
 unfoldable pub good : ℕ → View → Kind → ℕ → Bool

@@ -1,13 +1,14 @@
--- Two histories by number, N = 8 and all blocks good at version 255: an update that marks block 3 late is cut as its new primary is written.
--- The page is left unreadable, and the recovery keeps the old table; or it is left complete, and the recovery keeps the new one.
+-- Three histories by number, N = 8 and all blocks good at version 255: an update that marks block 3 late is cut as its new primary is written.
+-- The page is left unreadable, and the recovery keeps the old table; or it is left complete, and the recovery keeps the new one. Or it is no cut,
+-- the write fails: the plan made anew writes the new table, its primary to block 3.
 use mathlib.Core.Bool.{Bool, true, false}
 use mathlib.Core.List.{[], _∷_}
 use mathlib.Core.Path.{_≡_}
 use Prim.Native.Nat.{ℕ}
 use Rattle.chip.specs.declared.LargeChip.{LargeChip}
 use Rattle.bbt.specs.Copies.{Table}
-use Rattle.bbt.specs.Histories.{one-table, closed, Snapshot, empty, holding, world, History}
-use Rattle.bbt.specs.Plans.{for-recovery, reading, holds}
+use Rattle.bbt.specs.Histories.{one-table, closed, Snapshot, snapshot, withFailed, empty, holding, world, History}
+use Rattle.bbt.specs.Plans.{for-update, for-recovery, reading, holds}
 use Rattle.bbt.specs.Regions.{Region, view}
 
 abbrev pub chip8 : LargeChip
@@ -26,5 +27,12 @@ RunsTo complete p m t =
     × History (world r empty (one-table oldTable)) (world s (holding for-recovery a 2 []) (closed oldTable newTable complete))
     × (reading chip8 (view s) ≡ holds p m t)
 
+-- from there to the update with no step left: its step i has failed, the plan made anew has n steps, and what reading gives then
+abbrev pub FailsTo : ℕ → ℕ → ℕ → ℕ → Table → Type 0
+FailsTo i n p m t =
+    (r : Region chip8) × (s : Region chip8) × (reading chip8 (view r) ≡ holds 0 1 oldTable)
+    × History (world r empty (one-table oldTable)) (world s (holding (for-update (newTable .bitmap)) (withFailed (snapshot r) i) n []) (closed oldTable newTable true))
+    × (reading chip8 (view s) ≡ holds p m t)
+
 abbrev pub Examples : Type 0
-Examples = RunsTo false 3 1 oldTable × RunsTo true 0 1 newTable
+Examples = RunsTo false 3 1 oldTable × RunsTo true 0 1 newTable × FailsTo 1 5 3 1 newTable

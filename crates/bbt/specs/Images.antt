@@ -10,7 +10,7 @@ use Rattle.chip.specs.declared.Refusal.the-variants.{Range}
 use Rattle.bbt.specs.declared.Kind.{Kind}
 use Rattle.bbt.specs.Copies.{Table}
 use Rattle.bbt.specs.Pages.{kindWord}
-use Rattle.bbt.specs.Plans.{Step, erase, write, stepsOf, Answer, refuse, plan}
+use Rattle.bbt.specs.Plans.{Step, erase, write, zeros, stepsOf, Answer, refuse, plan}
 
 -- page p's bytes of a bitmap
 unfoldable pub chunk : ℕ → List ℕ → List ℕ
@@ -32,7 +32,7 @@ partImage k v part = imageData part ++ (replicate 14 255 ++ imageTail k v)
 unfoldable pub pageImage : Kind → Table → ℕ → List ℕ
 pageImage k t p = partImage k (t .version) (chunk p (t .bitmap))
 
--- the image of a plan's step: a step past the plan's end, or of an erase, is refusal 2
+-- the image of a plan's step: a step past the plan's end, or of an erase or of zeros, is refusal 2
 pub data Imaged : Type 0 where
   no-image : Refusal → Imaged
   page-image : List ℕ → Imaged
@@ -41,6 +41,7 @@ unfoldable pub imageAt : List Step → ℕ → Imaged
 imageAt [] i = no-image Range
 imageAt (erase b ∷ es) zero = no-image Range
 imageAt (write b p k t ∷ es) zero = page-image (pageImage k t p)
+imageAt (zeros b ∷ es) zero = no-image Range
 imageAt (e ∷ es) (suc i) = imageAt es i
 
 unfoldable pub planImage : LargeChip → Answer → ℕ → Imaged

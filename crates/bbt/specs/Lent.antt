@@ -10,9 +10,9 @@ use Rattle.chip.specs.declared.ChipAnswer.the-variants.{Chip, Refused}
 use Rattle.chip.specs.declared.LargeChip.{LargeChip}
 use Rattle.chip.specs.declared.Refusal.{Refusal}
 use Rattle.chip.specs.declared.Refusal.the-variants.{Length, Range}
-use Rattle.bbt.specs.Copies.{all}
+use Rattle.bbt.specs.Failures.{failures}
 use Rattle.bbt.specs.Images.{Imaged, no-image, planImage}
-use Rattle.bbt.specs.Pages.{seen}
+use Rattle.bbt.specs.Pages.{all, seen}
 use Rattle.bbt.specs.Plans.{Reading, refused, reading, Answer, refuse, Call, for-update, for-recovery, planByRules}
 
 -- on the chip of N blocks with a region of its size, or their refusal
@@ -41,18 +41,19 @@ lentReading chip image status room =
 unfoldable pub tableReading : ℕ → ℕ → List ℕ → List ℕ → List ℕ → Reading
 tableReading n size image status room = onChip refused (chipOf n size) (λ chip. lentReading chip image status room)
 
--- planning, with a wanted bitmap for an update
+-- planning, with a wanted bitmap for an update, and the numbers of the steps that have failed since the first plan, as many as there are
 abbrev pub callLent : LargeChip → Call → Bool
 callLent chip (for-update w) = eqb (length w) (bitmapBytes chip)
 callLent chip for-recovery = true
 
-unfoldable pub lentPlan : LargeChip → Call → List ℕ → List ℕ → Answer
-lentPlan chip call image status =
-    judged refuse (regionLent chip image status && callLent chip call) (statusesRight status) (planByRules chip (seen chip image status) call)
+unfoldable pub lentPlan : LargeChip → Call → List ℕ → List ℕ → List ℕ → Answer
+lentPlan chip call image status failed =
+    judged refuse (regionLent chip image status && callLent chip call) (statusesRight status)
+    (failures chip (seen chip image status) (planByRules chip (seen chip image status) call) failed)
 
-unfoldable pub planned : ℕ → ℕ → Call → List ℕ → List ℕ → Answer
-planned n size call image status = onChip refuse (chipOf n size) (λ chip. lentPlan chip call image status)
+unfoldable pub planned : ℕ → ℕ → Call → List ℕ → List ℕ → List ℕ → Answer
+planned n size call image status failed = onChip refuse (chipOf n size) (λ chip. lentPlan chip call image status failed)
 
 -- the page image of step i of the plan that planning gives
-unfoldable pub imaged : ℕ → ℕ → Call → List ℕ → List ℕ → ℕ → Imaged
-imaged n size call image status i = onChip no-image (chipOf n size) (λ chip. planImage chip (lentPlan chip call image status) i)
+unfoldable pub imaged : ℕ → ℕ → Call → List ℕ → List ℕ → List ℕ → ℕ → Imaged
+imaged n size call image status failed i = onChip no-image (chipOf n size) (λ chip. planImage chip (lentPlan chip call image status failed) i)

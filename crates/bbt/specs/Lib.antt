@@ -3,6 +3,7 @@ pub mod Pages
 pub mod Copies
 pub mod Pairs
 pub mod Plans
+pub mod Failures
 pub mod Images
 pub mod Lent
 pub mod Told
@@ -15,3 +16,4 @@ pub mod Possible
 pub mod Starts
 pub mod Sizes
 pub mod Example
+pub mod Premise

@@ -1,7 +1,7 @@
 -- Document 01, "Large chip": the pages of a region image, and what is seen of a page. Every rule of the region is a function of what is seen.
-use mathlib.Core.Bool.{Bool, true, false, cond, _&&_}
+use mathlib.Core.Bool.{Bool, true, false, cond, _&&_, _||_}
 use mathlib.Core.List.{List}
-use Prim.Native.Nat.{ℕ, _+_, _*_, _-_, min}
+use Prim.Native.Nat.{ℕ, zero, suc, _+_, _*_, _-_, min}
 use lib.Dec.{eqb}
 use lib.ListN.{take, drop, getD}
 use Rattle.bits.specs.Bytes.{word}
@@ -9,6 +9,11 @@ use Rattle.chip.specs.Large.{bitmapBytes, pagesOf}
 use Rattle.chip.specs.declared.LargeChip.{LargeChip}
 use Rattle.bbt.specs.declared.Kind.{Kind}
 use Rattle.bbt.specs.declared.Kind.the-variants.{Primary, Mirror, Neither}
+
+-- every number below n passes
+unfoldable pub all : ℕ → (ℕ → Bool) → Bool
+all zero f = true
+all (suc n) f = all n f && f n
 
 -- signatures, as numbers of four bytes: primary 42 62 74 30, mirror 31 74 62 42
 unfoldable pub kindOfWord : ℕ → Kind
@@ -54,9 +59,17 @@ pub data Page : Type 0 where
   marked : Page
   reads : Kind → ℕ → List ℕ → Page
 
--- readable as bad (document 01's own term): the first page reads well, has neither signature, and OOB byte 0 is 0
+-- a page reads well, has neither signature, and OOB byte 0 is 0
+unfoldable pub badMark : ℕ → List ℕ → Bool
+badMark s l = eqb s 0 && (sameKind (kindOf l) Neither && eqb (getD l 2048 0) 0)
+
+-- a page shows 64 zero OOB bytes
+unfoldable pub zeroOob : List ℕ → Bool
+zeroOob l = all 64 (λ j. eqb (getD l (2048 + j) 0) 0)
+
+-- readable as bad (document 01's own term): the first page has that mark, or shows 64 zero OOB bytes whatever its read status
 unfoldable pub badPage : ℕ → ℕ → List ℕ → Bool
-badPage p s l = eqb p 0 && (eqb s 0 && (sameKind (kindOf l) Neither && eqb (getD l 2048 0) 0))
+badPage p s l = eqb p 0 && (badMark s l || zeroOob l)
 
 -- of page p of a block, by its status byte and its bytes
 unfoldable pub pageOf : LargeChip → ℕ → ℕ → List ℕ → Page

@@ -34,18 +34,29 @@ unfoldable pub reading : LargeChip → View → Reading
 reading chip R = readCase (pagesOf chip) R (pairCase chip R)
 
 -- ---- steps and plans
--- a step: a block erased, or a page of a copy written: its block, page, kind and table
+-- a step: a block erased; a page of a copy written: its block, page, kind and table; or zeros written to the 64 OOB bytes of a block's first page
 pub data Step : Type 0 where
   erase : ℕ → Step
   write : ℕ → ℕ → Kind → Table → Step
+  zeros : ℕ → Step
 
-pub data Plan : Type 0 where
-  -- no step; the version kept
-  idle : ℕ → Plan
+-- what a plan writes
+pub data Job : Type 0 where
+  -- nothing; the version kept
+  idle : ℕ → Job
   -- one copy: its kind and block, the block where the other kind's copy stands, and the table
-  single : Kind → ℕ → ℕ → Table → Plan
+  single : Kind → ℕ → ℕ → Table → Job
   -- both copies: primary's block, then mirror's, and the table
-  double : ℕ → ℕ → Table → Plan
+  double : ℕ → ℕ → Table → Job
+
+-- a plan: the blocks that have failed under it, the newest first, and what it writes
+pub record Plan : Type 0 where
+  pub failed : List ℕ
+  pub job : Job
+
+-- as it is made: no block has failed
+abbrev pub fresh : Job → Plan
+fresh j = record { failed = []; job = j }
 
 pub data Answer : Type 0 where
   refuse : Refusal → Answer
@@ -60,17 +71,35 @@ writes (suc n) p b k t rest = write b p k t ∷ writes n (suc p) b k t rest
 unfoldable pub copySteps : ℕ → ℕ → Kind → Table → List Step → List Step
 copySteps P b k t rest = erase b ∷ writes P 0 b k t rest
 
--- the steps of a plan, numbered from 0: none, P + 1 or 2P + 2
-unfoldable pub stepsOf : ℕ → Plan → List Step
-stepsOf P (idle v) = []
-stepsOf P (single k b g t) = copySteps P b k t []
-stepsOf P (double p m t) = copySteps P p Primary t (copySteps P m Mirror t [])
+-- what a plan writes, step by step: none, P + 1 or 2P + 2
+unfoldable pub jobSteps : ℕ → Job → List Step
+jobSteps P (idle v) = []
+jobSteps P (single k b g t) = copySteps P b k t []
+jobSteps P (double p m t) = copySteps P p Primary t (copySteps P m Mirror t [])
+
+-- once a block has failed, zeros to the newest come first
+abbrev pub zeroFirst : List ℕ → List Step → List Step
+zeroFirst [] es = es
+zeroFirst (b ∷ bs) es = zeros b ∷ es
+
+-- the steps of a plan, numbered from 0
+abbrev pub stepsOf : ℕ → Plan → List Step
+stepsOf P q = zeroFirst (q .failed) (jobSteps P (q .job))
+
+-- step i
+unfoldable pub stepAt : List Step → ℕ → Option Step
+stepAt [] i = none
+stepAt (e ∷ es) zero = some e
+stepAt (e ∷ es) (suc i) = stepAt es i
 
 -- the version that a plan tells
-unfoldable pub planVersion : Plan → ℕ
-planVersion (idle v) = v
-planVersion (single k b g t) = t .version
-planVersion (double p m t) = t .version
+unfoldable pub jobVersion : Job → ℕ
+jobVersion (idle v) = v
+jobVersion (single k b g t) = t .version
+jobVersion (double p m t) = t .version
+
+abbrev pub planVersion : Plan → ℕ
+planVersion q = jobVersion (q .job)
 
 -- version plus 1 modulo 256
 unfoldable pub nextVersion : ℕ → ℕ
@@ -87,7 +116,7 @@ updated o w =
 unfoldable pub updateFrom : List ℕ → Reading → Answer
 updateFrom w (refused r) = refuse r
 updateFrom w (holds p m o) =
-    plan (cond (same (updatedBytes (o .bitmap) w) (o .bitmap)) (idle (o .version)) (double p m (updated o w)))
+    plan (fresh (cond (same (updatedBytes (o .bitmap) w) (o .bitmap)) (idle (o .version)) (double p m (updated o w))))
 
 unfoldable pub update : LargeChip → View → List ℕ → Answer
 update chip R w = updateFrom w (reading chip R)
@@ -113,7 +142,7 @@ otherKind Neither = Neither
 -- only one kind good, in block g: erase the target, write the missing kind, same version; no target is refusal 11
 unfoldable pub recoverTo : Kind → ℕ → Table → Option ℕ → Answer
 recoverTo k g t none = refuse NoTarget
-recoverTo k g t (some b) = plan (single k b g t)
+recoverTo k g t (some b) = plan (fresh (single k b g t))
 
 -- bitmaps ANDed, version plus 1
 unfoldable pub anded : Table → Table → Table
@@ -121,14 +150,14 @@ anded x y = record { version = nextVersion (x .version); bitmap = andBytes (x .b
 
 -- the sign of d chooses which copy is written anew, with the table and version of the newer
 unfoldable pub recoverNewer : ℤ → Table → Table → ℕ → ℕ → Answer
-recoverNewer (pos n) x y p m = plan (single Mirror m p x)
-recoverNewer (negsuc n) x y p m = plan (single Primary p m y)
+recoverNewer (pos n) x y p m = plan (fresh (single Mirror m p x))
+recoverNewer (negsuc n) x y p m = plan (fresh (single Primary p m y))
 
 unfoldable pub recoverCase : LargeChip → View → Case → Answer
 recoverCase chip R (no-pair r) = refuse r
 recoverCase chip R (alone k g) = recoverTo (otherKind k) g (table (pagesOf chip) R g) (target chip R (g ∷ []))
-recoverCase chip R (settled p m) = plan (idle (table (pagesOf chip) R p .version))
-recoverCase chip R (merging p m) = plan (double p m (anded (table (pagesOf chip) R p) (table (pagesOf chip) R m)))
+recoverCase chip R (settled p m) = plan (fresh (idle (table (pagesOf chip) R p .version)))
+recoverCase chip R (merging p m) = plan (fresh (double p m (anded (table (pagesOf chip) R p) (table (pagesOf chip) R m))))
 recoverCase chip R (differing d p m) = recoverNewer d (table (pagesOf chip) R p) (table (pagesOf chip) R m) p m
 
 unfoldable pub recovery : LargeChip → View → Answer

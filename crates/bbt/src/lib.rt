@@ -1,10 +1,11 @@
 // The rules of the bad-block table: the definitions are in specs/, and this is what code and definitions share: kinds, cases, plans, steps.
+ghost use mathlib.Core.List.{[]};
 ghost use mathlib.Core.Path.{_≡_};
-ghost use Prim.Native.Nat.{_<_};
+ghost use Prim.Native.Nat.{_<_, _≤_};
 ghost use lib.ListN.{length};
 ghost use Rattle.bbt.specs.Pages.{kindOfWord, kindWord};
 ghost use Rattle.bbt.specs.Pairs.{difference};
-ghost use Rattle.bbt.specs.Told.{chipBlock, copyStep, toldSteps, nthStep};
+ghost use Rattle.bbt.specs.Told.{chipBlock, copyStep, stepsBy, retiredFirst, toldSteps, nthStep};
 use chip::ChipBlock;
 use chip::LargeChip;
 use chip::Refusal;
@@ -80,24 +81,38 @@ pub enum PairCase {
     Differing(i32, RegionBlock, RegionBlock),
 }
 
-// What a plan writes: nothing, one copy of a kind to a block, or the primary and then the mirror.
+// What a plan writes: nothing; one copy of a kind to a block, beside the other kind's in another; or the primary and then the mirror.
 pub enum Shape {
     Empty,
-    One(Kind, ChipBlock),
-    Both(ChipBlock, ChipBlock),
+    One(Kind, RegionBlock, RegionBlock),
+    Both(RegionBlock, RegionBlock),
 }
 
-// A plan: the version that it tells and writes, the pages of a copy, and what it writes.
+// The block that has failed last under a plan, which gets zeros first, if one has.
+pub enum Retired {
+    Nothing,
+    Block(RegionBlock),
+}
+
+// A plan: the version that it tells and writes, its chip, the block that it retires, and what it writes.
 pub struct Plan {
     pub version: u8,
-    pub pages: u8,
+    pub chip: LargeChip,
+    pub retired: Retired,
     pub shape: Shape,
 }
 
-// A step of a plan, or none of that number.
+// What planning answers.
+pub enum PlanAnswer {
+    Planned(Plan),
+    Refused(Refusal),
+}
+
+// A step of a plan, or none of that number: a block erased, a page of a copy written, or zeros to the OOB bytes of a block's first page.
 pub enum Step {
     Erase(ChipBlock),
     Write(ChipBlock, u8, Kind),
+    Zero(ChipBlock),
     Past,
 }
 
@@ -112,43 +127,80 @@ fn copy_step(kind: Kind, block: ChipBlock, k: u64) -> Step
     Step::Write(block, (k - 1) as u8, kind)
 }
 
+// How many steps write what a plan writes: 0, P + 1 or 2P + 2.
+fn shape_count(chip: LargeChip, shape: Shape) -> u32
+    ensures { λ r. ⌜ (r ≡ length (stepsBy chip shape)) × (r ≤ 20) ⌝ }
+{
+    let p = chip.pages() as u32;
+    match shape {
+        Shape::Empty => 0,
+        Shape::One(_, _, _) => p + 1,
+        Shape::Both(_, _) => 2 * p + 2,
+    }
+}
+
+// Step k of these, counted from 0.
+fn shape_step(chip: LargeChip, shape: Shape, k: u64) -> Step
+    ensures { λ r. ⌜ r ≡ nthStep (stepsBy chip shape) k ⌝ }
+{
+    let p = chip.pages() as u64;
+    match shape {
+        Shape::Empty => Step::Past,
+        Shape::One(kind, block, _) => {
+            if p < k {
+                return Step::Past;
+            }
+            copy_step(kind, chip_block(chip, block), k)
+        }
+        Shape::Both(primary, mirror) => {
+            if k <= p {
+                return copy_step(Kind::Primary, chip_block(chip, primary), k);
+            }
+            if 2 * p + 1 < k {
+                return Step::Past;
+            }
+            copy_step(Kind::Mirror, chip_block(chip, mirror), k - p - 1)
+        }
+    }
+}
+
+// How many zero steps come first: one where a block is retired.
+fn zero_count(chip: LargeChip, retired: Retired) -> u32
+    ensures { λ r. ⌜ (r ≡ length (retiredFirst chip retired [])) × (r ≤ 1) ⌝ }
+{
+    match retired {
+        Retired::Nothing => 0,
+        Retired::Block(_) => 1,
+    }
+}
+
 impl Plan {
-    // How many steps there are: 0, P + 1 or 2P + 2.
+    // How many steps there are, with the zero step where a block is retired.
     pub fn step_count(self) -> u32
         ensures { λ r. ⌜ r ≡ length (toldSteps self) ⌝ }
     {
-        let p = self.pages as u32;
+        let chip = self.chip;
         let shape = self.shape;
-        match shape {
-            Shape::Empty => 0,
-            Shape::One(_, _) => p + 1,
-            Shape::Both(_, _) => 2 * p + 2,
-        }
+        let retired = self.retired;
+        zero_count(chip, retired) + shape_count(chip, shape)
     }
 
     // Step k, counted from 0.
     pub fn step(self, k: u64) -> Step
         ensures { λ r. ⌜ r ≡ nthStep (toldSteps self) k ⌝ }
     {
-        let p = self.pages as u64;
+        let chip = self.chip;
         let shape = self.shape;
-        match shape {
-            Shape::Empty => Step::Past,
-            Shape::One(kind, block) => {
-                if p < k {
-                    return Step::Past;
+        let retired = self.retired;
+        let after = match retired {
+            Retired::Nothing => k,
+            Retired::Block(b) => {
+                if k == 0 {
+                    return Step::Zero(chip_block(chip, b));
                 }
-                copy_step(kind, block, k)
+                k - 1
             }
-            Shape::Both(primary, mirror) => {
-                if k <= p {
-                    return copy_step(Kind::Primary, primary, k);
-                }
-                if 2 * p + 1 < k {
-                    return Step::Past;
-                }
-                copy_step(Kind::Mirror, mirror, k - p - 1)
-            }
-        }
+        };
+        shape_step(chip, shape, after)
     }
 }

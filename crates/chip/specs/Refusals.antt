@@ -5,7 +5,7 @@ use Rattle.chip.specs.declared.BadKind.the-variants.{Factory, Late}
 use Rattle.chip.specs.declared.Half.{Half}
 use Rattle.chip.specs.declared.Half.the-variants.{First, Second}
 use Rattle.chip.specs.declared.Refusal.{Refusal}
-use Rattle.chip.specs.declared.Refusal.the-variants.{Length, Range, BadBlock, Tag, Magic, Unrepairable, NoCopy, SeveralCopies, Opposite, NotSettled, NoTarget}
+use Rattle.chip.specs.declared.Refusal.the-variants.{Length, Range, BadBlock, Tag, Magic, Unrepairable, NoCopy, SeveralCopies, Opposite, NotSettled, NoTarget, ZeroFailed}
 
 -- the number in the table
 abbrev pub refusalNumber : Refusal → ℕ
@@ -20,6 +20,7 @@ refusalNumber SeveralCopies = 8
 refusalNumber Opposite = 9
 refusalNumber NotSettled = 10
 refusalNumber NoTarget = 11
+refusalNumber ZeroFailed = 12
 
 -- 3 with factory (1) or late (2)
 abbrev pub badNumber : BadKind → ℕ
@@ -44,3 +45,4 @@ refusalDetail SeveralCopies = 0
 refusalDetail Opposite = 0
 refusalDetail NotSettled = 0
 refusalDetail NoTarget = 0
+refusalDetail ZeroFailed = 0

@@ -46,8 +46,8 @@ impl SmallChip {
 
 // The large chip: 2,048 data bytes and 64 OOB bytes a page; its number of blocks, and how many of the last hold the tables.
 pub struct LargeChip {
-    pub blocks: u16,
     pub region: u8,
+    pub blocks: u16,
 }
 
 // A large chip, or the refusal of its numbers of blocks.
@@ -71,6 +71,9 @@ impl LargeChip {
     pub const SMALLEST_REGION: u64 = 4;
 
     pub const LARGEST_REGION: u64 = 7;
+
+    // A place for each block of the largest region, as the length of an array.
+    pub const REGION_PLACES: usize = 7;
 
     pub const FEWEST_BLOCKS: u64 = 8;
 
@@ -216,6 +219,7 @@ pub enum Refusal {
     Opposite,
     NotSettled,
     NoTarget,
+    ZeroFailed,
 }
 
 impl Refusal {
@@ -235,6 +239,7 @@ impl Refusal {
             Refusal::Opposite => 9,
             Refusal::NotSettled => 10,
             Refusal::NoTarget => 11,
+            Refusal::ZeroFailed => 12,
         }
     }
 
@@ -260,6 +265,7 @@ impl Refusal {
             Refusal::Opposite => 0,
             Refusal::NotSettled => 0,
             Refusal::NoTarget => 0,
+            Refusal::ZeroFailed => 0,
         }
     }
 }

@@ -8,14 +8,13 @@ use lib.ListN.{length, drop}
 use Rattle.bbt.proofs.LeftPages.{Judged, judge}
 use Rattle.bbt.proofs.Raw.{chip-valid}
 use Rattle.bbt.specs.Copies.{Table}
-use Rattle.bbt.specs.Histories.{snapshot, answer}
+use Rattle.bbt.specs.Histories.{Snapshot, answer}
 use Rattle.bbt.specs.Images.{Imaged}
 use Rattle.bbt.specs.Plans.{Plan, Answer, plan, Call, Reading, holds, reading}
 use Rattle.bbt.specs.Regions.{Region, view}
-use Rattle.bbt.specs.Told.{chipBlock, toldPlan, toldSteps}
+use Rattle.bbt.specs.Told.{chipBlock, toldPlan, toldAnswer, toldSteps}
 use Rattle.chip.specs.Large.{bitmapBytes}
 use Rattle.chip.specs.declared.LargeChip.{LargeChip}
-use Rattle.plan.specs.Answers.{toldAnswer}
 use Rattle.plan.specs.PageImages.{imageAnswerBy, imageAfterBy}
 use Rattle.region.proofs.Bridge.{read-bridged}
 use Rattle.region.specs.Tables.{toldReading, roomBy}
@@ -23,7 +22,7 @@ use Rattle.region.specs.declared.TableAnswer.{TableAnswer}
 use Rattle.reamsickle.specs.LargeBoundary.{tableCodeBy, stepsPut, planCodeBy, stepsPutBy, imageCodeBy}
 use Rattle.claims.specs.Blocks.{TableInRegion}
 use Rattle.claims.specs.Driver.{versionIn, primaryIn, mirrorIn, stepByte, readTold}
-use Rattle.claims.specs.Found.{PlanFound, TableFound, BridgeToC}
+use Rattle.claims.specs.Found.{PlanFound, FindsPlans, TableFound, FindsTables, BridgeToC}
 use Rattle.claims.proofs.Blocks.{blocks-in-region}
 use Rattle.claims.proofs.Found.{step-byte, as-many, plan-told, steps-told, plan-answered, version-told, count-told, filled, page-answered, page-filled, read-told, bitmap-told, code-read, read-answered, table-told}
 
@@ -41,18 +40,36 @@ module _ (v a b : ℕ) (byte : v < 256) (ha : a < 65536) (hb : b < 65536) where
       let high : (256 * v + 65536 * (a % 65536) + 4294967296 * b) / 4294967296 ≡ b = omega arith in
       rw (low, high) low
 
-module _ {chip : LargeChip} (ok : Judged chip) (few : chip .blocks ≤ 32768) (r : Region chip) where
-  plan-found : (call : Call) (q : Plan) (steps : List ℕ) → length steps ≡ 64 → answer call (snapshot r) ≡ plan q → PlanFound r call q steps
+module _ {chip : LargeChip} (ok : Judged chip) (a : Snapshot chip) where
+  plan-found : (call : Call) (q : Plan) (steps : List ℕ) → length steps ≡ 64 → answer call a ≡ plan q → PlanFound a call q steps
   unfolding stepsPut
   plan-found call q steps long e = record {
-    answered = plan-answered ok r call steps long q e;
-    version = version-told ok r call steps long q e;
-    count = count-told ok r call steps long q e;
+    answered = plan-answered ok a call steps long q e;
+    version = version-told ok a call steps long q e;
+    count = count-told ok a call steps long q e;
     each = λ i k hi hk.
-        ap (λ (l : List ℕ). stepByte l i k) (filled ok r call steps long q e)
+        ap (λ (l : List ℕ). stepByte l i k) (filled ok a call steps long q e)
         ∙ step-byte (toldSteps (toldPlan chip q)) (drop (4 * length (toldSteps (toldPlan chip q))) steps) i k (omega (arith, as-many chip q)) hk;
   }
 
+  finds-plans : FindsPlans a
+  finds-plans = record {
+    plans = plan-found;
+    no-plan = λ call x steps long e. (
+      plan-told ok a call steps long ∙ ap (λ (y : Answer). planCodeBy (toldAnswer chip y)) e,
+      steps-told ok a call steps long ∙ ap (λ (y : Answer). stepsPutBy (toldAnswer chip y) steps) e,
+    );
+    pages = λ call i page bytes long e. (
+      page-answered ok a call i page long ∙ ap (λ (x : Imaged). imageCodeBy (imageAnswerBy x)) e,
+      page-filled ok a call i page long ∙ ap (λ (x : Imaged). imageAfterBy x page) e,
+    );
+    no-page = λ call i page x long e. (
+      page-answered ok a call i page long ∙ ap (λ (x : Imaged). imageCodeBy (imageAnswerBy x)) e,
+      page-filled ok a call i page long ∙ ap (λ (x : Imaged). imageAfterBy x page) e,
+    );
+  }
+
+module _ {chip : LargeChip} (ok : Judged chip) (few : chip .blocks ≤ 32768) (r : Region chip) where
   table-found : (p m : ℕ) (t : Table) (room : List ℕ) → length room ≡ bitmapBytes chip → reading chip (view r) ≡ holds p m t → TableFound r p m t room
   table-found p m t room long e =
       let told = table-told ok r room long p m t e in
@@ -69,27 +86,17 @@ module _ {chip : LargeChip} (ok : Judged chip) (few : chip .blocks ≤ 32768) (r
         bitmap = ap (λ (x : Table). x .bitmap) told;
       }
 
+  finds-tables : FindsTables r
+  finds-tables = record {
+    tables = table-found;
+    no-table = λ x room long e. (
+      read-told ok r room long ∙ ap (λ (y : Reading). tableCodeBy (toldReading chip y)) e,
+      bitmap-told ok r room long ∙ ap (λ (y : Reading). roomBy y room) e,
+    );
+  }
+
 pub bridge-to-c : BridgeToC
-bridge-to-c n size chip is r = record {
-  plans = plan-found ok few r;
-  no-plan = λ call x steps long e. (
-    plan-told ok r call steps long ∙ ap (λ (a : Answer). planCodeBy (toldAnswer chip a)) e,
-    steps-told ok r call steps long ∙ ap (λ (a : Answer). stepsPutBy (toldAnswer chip a) steps) e,
-  );
-  pages = λ call i page bytes long e. (
-    page-answered ok r call i page long ∙ ap (λ (x : Imaged). imageCodeBy (imageAnswerBy x)) e,
-    page-filled ok r call i page long ∙ ap (λ (x : Imaged). imageAfterBy x page) e,
-  );
-  no-page = λ call i page x long e. (
-    page-answered ok r call i page long ∙ ap (λ (x : Imaged). imageCodeBy (imageAnswerBy x)) e,
-    page-filled ok r call i page long ∙ ap (λ (x : Imaged). imageAfterBy x page) e,
-  );
-  tables = table-found ok few r;
-  no-table = λ x room long e. (
-    read-told ok r room long ∙ ap (λ (y : Reading). tableCodeBy (toldReading chip y)) e,
-    bitmap-told ok r room long ∙ ap (λ (y : Reading). roomBy y room) e,
-  );
-}
+bridge-to-c n size chip is = (finds-plans ok, finds-tables ok few)
   where
     ok : Judged chip
     ok = judge n size chip is

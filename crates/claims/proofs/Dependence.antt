@@ -2,7 +2,7 @@
 -- Assumes nothing.
 use mathlib.Core.Path.{ap}
 use Rattle.plan.proofs.Dependence.{public-dependence}
-use Rattle.plan.specs.declared.PlanAnswer.{PlanAnswer}
+use Rattle.bbt.specs.declared.PlanAnswer.{PlanAnswer}
 use Rattle.reamsickle.specs.LargeBoundary.{tableCodeBy, tableCode, planCode, stepsAfter, imageCodeBy, imageCode}
 use Rattle.claims.specs.Dependence.{DependenceInC}
 
@@ -13,8 +13,8 @@ dependence-in-c n size status x y alike =
     record {
       tables = λ room. ap tableCodeBy (same .tables room);
       bitmaps = same .bitmaps;
-      plans = λ call room. ap (λ (a : PlanAnswer). planCode n size a room) (same .plans call);
-      steps = λ call room. ap (λ (a : PlanAnswer). stepsAfter a room) (same .plans call);
-      images = λ call i room. ap imageCodeBy (same .images call i room);
+      plans = λ call failed room. ap (λ (a : PlanAnswer). planCode n size a room) (same .plans call failed);
+      steps = λ call failed room. ap (λ (a : PlanAnswer). stepsAfter a room) (same .plans call failed);
+      images = λ call failed i room. ap imageCodeBy (same .images call failed i room);
       pages = same .pages;
     }

@@ -21,7 +21,7 @@ use Rattle.chip.specs.declared.ChipAnswer.the-variants.{Chip}
 use Rattle.chip.specs.declared.LargeChip.{LargeChip}
 use Rattle.chip.specs.declared.Refusal.the-variants.{NoCopy, NotSettled}
 use Rattle.claims.specs.Driver.{readTold, bitmapTold, tableTold}
-use Rattle.claims.specs.Found.{Finds, TableFound}
+use Rattle.claims.specs.Found.{FindsTables, TableFound}
 use Rattle.claims.specs.Sizes.{readFewer, bitmapFewer, byBlocks, NarrowedInC, BelowNotFoundInC}
 use Rattle.claims.proofs.BridgeToC.{bridge-to-c}
 use Rattle.claims.proofs.Found.{code-read, read-settled}
@@ -40,11 +40,11 @@ module _ (n size d : ℕ) (chip : LargeChip) (is : chipOf n size ≡ Chip chip) 
   abbrev lower : Region (narrowed chip d)
   lower = last ok d few r
 
-  found : Finds r
-  found = bridge-to-c n size chip is r
+  found : FindsTables r
+  found = bridge-to-c n size chip is .1 r
 
-  found-fewer : Finds lower
-  found-fewer = bridge-to-c n (size - d) (narrowed chip d) fewer lower
+  found-fewer : FindsTables lower
+  found-fewer = bridge-to-c n (size - d) (narrowed chip d) fewer .1 lower
 
   module _ (p m : ℕ) (t : Table) (e : reading chip (view r) ≡ holds p m t) where
     reads : reading (narrowed chip d) (view lower) ≡ foundAbove d p m t

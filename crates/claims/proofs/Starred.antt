@@ -4,10 +4,10 @@ use mathlib.Core.List.{List}
 use mathlib.Core.Path.{_≡_, refl}
 use Prim.Native.Nat.{ℕ}
 use lib.Count.{ones, onesIn}
-use Rattle.bbt.specs.Copies.{all, also, find, good, isPage, pagePart, pageVersion, parts, table as bitmapTable}
+use Rattle.bbt.specs.Copies.{also, find, good, isPage, pagePart, pageVersion, parts, table as bitmapTable}
 use Rattle.bbt.specs.Images.{chunk, imageData, imageTail, partImage, pageImage}
 use Rattle.bbt.specs.Lent.{regionLent, statusesRight, lentReading, tableReading}
-use Rattle.bbt.specs.Pages.{badPage, kindOf, kindOfWord, pageBytes, pageOf, sameKind, seen}
+use Rattle.bbt.specs.Pages.{all, badPage, badMark, zeroOob, kindOf, kindOfWord, pageBytes, pageOf, sameKind, seen}
 use Rattle.bbt.specs.Pairs.{same, signedOf, difference, bothCase, compared, caseOf, pairCase}
 use Rattle.bbt.specs.Plans.{readCase, reading, recoverCase}
 use Rattle.bits.specs.Bits.{bit, number, parityOf}
@@ -41,7 +41,7 @@ no-tag-refused b e s fields long lf good at =
     rw (eq-eqb (length fields) 11 lf, eq-eqb (length s) 16 long, good, at, e) refl
 
 by-size : All sizes
-unfolding tableCode tableAnswer tableReading lentReading regionLent statusesRight chipOf isBlocks isRegion lastBlocks reading readCase pairCase caseOf compared bothCase difference signedOf find also good all isPage sameKind pageVersion seen pageOf badPage pageBytes kindOf kindOfWord same pageImage partImage imageData imageTail chunk bitmapTable parts pagePart
+unfolding tableCode tableAnswer tableReading lentReading regionLent statusesRight chipOf isBlocks isRegion lastBlocks reading readCase pairCase caseOf compared bothCase difference signedOf find also good all isPage sameKind pageVersion seen pageOf badPage badMark zeroOob pageBytes kindOf kindOfWord same pageImage partImage imageData imageTail chunk bitmapTable parts pagePart
 by-size = (refl, (refl, (refl, (refl, tt))))
 
 pub starred : All table

@@ -17,10 +17,14 @@ use Rattle.reamsickle.specs.LargeBoundary.{tableCode, planCode, stepsAfter, ima
 pub record SameInC (n size : ℕ) (status x y : List ℕ) : Type 0 where
   pub tables : (room : List ℕ) → tableCode n size x status room ≡ tableCode n size y status room
   pub bitmaps : (room : List ℕ) → tableAfter n size x status room ≡ tableAfter n size y status room
-  pub plans : (call : Call) (room : List ℕ) → planCode n size (planAnswer n size call x status) room ≡ planCode n size (planAnswer n size call y status) room
-  pub steps : (call : Call) (room : List ℕ) → stepsAfter (planAnswer n size call x status) room ≡ stepsAfter (planAnswer n size call y status) room
-  pub images : (call : Call) (i : ℕ) (room : List ℕ) → imageCode n size call x status i room ≡ imageCode n size call y status i room
-  pub pages : (call : Call) (i : ℕ) (room : List ℕ) → imageAfter n size call x status i room ≡ imageAfter n size call y status i room
+  pub plans : (call : Call) (failed room : List ℕ)
+      → planCode n size (planAnswer n size call x status failed) room ≡ planCode n size (planAnswer n size call y status failed) room
+  pub steps : (call : Call) (failed room : List ℕ)
+      → stepsAfter (planAnswer n size call x status failed) room ≡ stepsAfter (planAnswer n size call y status failed) room
+  pub images : (call : Call) (failed : List ℕ) (i : ℕ) (room : List ℕ)
+      → imageCode n size call x status failed i room ≡ imageCode n size call y status failed i room
+  pub pages : (call : Call) (failed : List ℕ) (i : ℕ) (room : List ℕ)
+      → imageAfter n size call x status failed i room ≡ imageAfter n size call y status failed i room
 
 abbrev pub DependenceInC : Type 0
 DependenceInC = (n size : ℕ) (status x y : List ℕ) → ((chip : LargeChip) → chipOf n size ≡ Chip chip → Alike chip status x y) → SameInC n size status x y

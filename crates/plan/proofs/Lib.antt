@@ -4,6 +4,7 @@ pub mod Answering
 pub mod Asking
 pub mod Paging
 pub mod Parts
+pub mod Keeping
 pub mod Imaging
 pub mod Bridge
 pub mod Dependence

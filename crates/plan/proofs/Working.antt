@@ -1,16 +1,17 @@
 -- What a call comes to is planned as the rules have it, and reads blocks that hold good copies.
 -- Assumes nothing.
+use mathlib.Core.Bool.{true, false}
 use mathlib.Core.List.{List, [], _∷_}
 use mathlib.Core.Option.{Option, none, some}
 use mathlib.Core.Path.{_≡_, refl, _∙_, ap, ap₂, sym, subst}
 use Prim.Native.Nat.{ℕ, _<_}
 use native.Mathlib.Omega.{arith}
-use borrow.Author.Tests.{eqb-true, lt-ltb}
+use borrow.Author.Tests.{eqb-true}
 use lib.IntN.{ℤ, pos, negsuc}
-use lib.ListN.{length}
+use lib.ListN.{length, set, replicate}
 use Rattle.bbt.specs.Copies.{Table}
 use Rattle.bbt.specs.Pages.{seen}
-use Rattle.bbt.specs.Plans.{plan, idle, double, holds, readCase, reading, updateFrom, update, target, otherKind, recoverTo, anded, recoverNewer, recoverCase, recovery, Call, for-update, for-recovery, planByRules}
+use Rattle.bbt.specs.Plans.{plan, fresh, idle, double, holds, readCase, reading, updateFrom, update, target, otherKind, recoverTo, anded, recoverNewer, recoverCase, recovery, Call, for-update, for-recovery, planByRules}
 use Rattle.region.specs.Stored.{storedTable}
 use Rattle.bbt.specs.declared.Kind.{Kind}
 use Rattle.bbt.specs.declared.PairCase.{PairCase}
@@ -20,12 +21,15 @@ use Rattle.chip.specs.declared.LargeChip.{LargeChip}
 use Rattle.chip.specs.declared.RegionBlock.{RegionBlock}
 use Rattle.plan.specs.Works.{updateWork, missingWork, newerWork, recoveryWork, workAnswer, Placed, Sourced}
 use Rattle.plan.specs.declared.Work.{Work}
-use Rattle.region.proofs.Judged.{untold, Known, known-image, known-copies, known-table}
+use Rattle.plan.specs.declared.Work.the-variants.{Refused as NoWork, Keep, Update, Copy, Merge}
+use Rattle.region.proofs.Flagging.{target-flags, flags-none, flags-more}
+use Rattle.region.proofs.Judged.{untold, Known, known-valid, known-image, known-copies, known-table}
 use Rattle.region.specs.Targets.{toldTarget, targetOn, lentTarget}
 use Rattle.region.specs.declared.Beside.{Beside}
 use Rattle.region.specs.declared.Beside.the-variants.{Nothing, Bitmap}
 use Rattle.region.specs.declared.TargetAnswer.{TargetAnswer}
 use Rattle.region.specs.declared.TargetAnswer.the-variants.{Found, Missing, Refused}
+use Rattle.retire.specs.Retiring.{First}
 
 -- what a call lends beside the region, and what it comes to
 abbrev pub besideOf : Call → Beside
@@ -56,11 +60,14 @@ module _ (chip : LargeChip) (image w : List ℕ) where
   newer-plans (negsuc n) p m = refl
 
 module _ {n size : ℕ} {chip : LargeChip} {beside : Beside} {image status : List ℕ} where
-  -- the target that is found on a judged region
-  target-known : {c : PairCase} → Known n size chip beside image status c → (g : ℕ) → g < chip .region
-      → lentTarget n size image status g ≡ toldTarget (target chip (seen chip image status) (g ∷ []))
+  -- the target that is found on a judged region, beside one block
+  target-known : {c : PairCase} → Known n size chip beside image status c → (g : ℕ)
+      → lentTarget n size image status (set (replicate 7 false) g true) ≡ toldTarget (target chip (seen chip image status) (g ∷ []))
   unfolding lentTarget targetOn
-  target-known k g h = rw (k .the-chip, k .region-right, k .statuses-right, lt-ltb g (chip .region) h) refl
+  target-known k g =
+      rw (k .the-chip, k .region-right, k .statuses-right)
+      (ap toldTarget
+      (target-flags chip (seen chip image status) (set (replicate 7 false) g true) (g ∷ []) (omega (arith, known-valid k .region, known-valid k .right-size)) (flags-more (replicate 7 false) [] g refl flags-none)))
 
   update-plans : (w : List ℕ) (c : PairCase) → Known n size chip beside image status c
       → workAnswer chip image w (updateWork c) ≡ updateFrom w (readCase (pagesOf chip) (seen chip image status) (untold c))
@@ -76,12 +83,12 @@ module _ {n size : ℕ} {chip : LargeChip} {beside : Beside} {image status : Lis
   unfolding workAnswer recoverCase
   recovery-plans w (NoPair r) k = refl
   recovery-plans w (Alone j g) k =
-      ap (λ (t : TargetAnswer). workAnswer chip image w (missingWork j g t)) (target-known k (g .0) (known-copies k .inside))
+      ap (λ (t : TargetAnswer). workAnswer chip image w (missingWork j g t)) (target-known k (g .0))
       ∙ missing-plans chip image w j g (target chip (seen chip image status) (g .0 ∷ []))
       ∙ ap (λ (t : Table). recoverTo (otherKind j) (g .0) t (target chip (seen chip image status) (g .0 ∷ []))) (sym (known-table k (known-copies k)))
-  recovery-plans w (Settled p m) k = ap (λ (t : Table). plan (idle (t .version))) (sym (known-table k (known-copies k .0)))
+  recovery-plans w (Settled p m) k = ap (λ (t : Table). plan (fresh (idle (t .version)))) (sym (known-table k (known-copies k .0)))
   recovery-plans w (Merging p m) k =
-      ap₂ (λ (x y : Table). plan (double (p .0) (m .0) (anded x y))) (sym (known-table k (known-copies k .0))) (sym (known-table k (known-copies k .1)))
+      ap₂ (λ (x y : Table). plan (fresh (double (p .0) (m .0) (anded x y)))) (sym (known-table k (known-copies k .0))) (sym (known-table k (known-copies k .1)))
   recovery-plans w (Differing d p m) k =
       newer-plans chip image w d p m
       ∙ ap₂ (λ (x y : Table). recoverNewer d x y (p .0) (m .0)) (sym (known-table k (known-copies k .0))) (sym (known-table k (known-copies k .1)))
@@ -93,6 +100,15 @@ module _ {n size : ℕ} {chip : LargeChip} {image status : List ℕ} {c : PairCa
   work-plans (for-update w) k =
       update-plans w c k ∙ ap (λ x. updateFrom w (readCase (pagesOf chip) (seen chip image status) x)) (sym (k .the-case))
   work-plans for-recovery k = recovery-plans [] c k ∙ ap (recoverCase chip (seen chip image status)) (sym (k .the-case))
+
+-- no block has failed under it
+pub work-first : (chip : LargeChip) (image w : List ℕ) (work : Work) → First (workAnswer chip image w work)
+unfolding workAnswer updateFrom
+work-first chip image w (NoWork r) = tt
+work-first chip image w (Keep b) = refl
+work-first chip image w (Update p m) = refl
+work-first chip image w (Copy b t k) = refl
+work-first chip image w (Merge p m) = refl
 
 -- ---- where the bitmap comes from
 missing-placed : (chip : LargeChip) (size : ℕ) (k : Kind) (g : RegionBlock) (t : TargetAnswer) → g .0 < chip .region → Placed chip size (missingWork k g t)
@@ -113,7 +129,7 @@ module _ {n size : ℕ} {chip : LargeChip} {image status : List ℕ} where
   work-placed (for-update w) (Merging p m) k = tt
   work-placed (for-update w) (Differing d p m) k = tt
   work-placed for-recovery (NoPair r) k = tt
-  work-placed for-recovery (Alone j g) k = missing-placed chip 0 j g (lentTarget n size image status (g .0)) (known-copies k .inside)
+  work-placed for-recovery (Alone j g) k = missing-placed chip 0 j g (lentTarget n size image status (set (replicate 7 false) (g .0) true)) (known-copies k .inside)
   work-placed for-recovery (Settled p m) k = tt
   work-placed for-recovery (Merging p m) k = (known-copies k .0 .inside, known-copies k .1 .inside)
   work-placed for-recovery (Differing d p m) k = newer-placed chip 0 d p m (known-copies k .0 .inside) (known-copies k .1 .inside)

@@ -1,4 +1,5 @@
--- Document 01: page images, 2,112 bytes each, are asked for by step number from the snapshot that the plan was made from.
+-- Document 01: page images, 2,112 bytes each, are asked for by step number from the snapshot that the first plan was made from, and the numbers
+-- of the steps that have failed since.
 use mathlib.Core.Bool.{cond, _&&_}
 use mathlib.Core.List.{List}
 use Prim.Native.Nat.{ℕ}
@@ -22,9 +23,9 @@ unfoldable pub imageInto : Kind → ℕ → List ℕ → List ℕ → List ℕ
 imageInto k v part page = cond (eqb (length page) 2112 && leb (length part) 2048) (partImage k v part) page
 
 -- N and the region's size first (2), then room for a page (1), then the image of step i of the plan; its own refusal comes last
-unfoldable pub lentImage : ℕ → ℕ → Call → List ℕ → List ℕ → ℕ → List ℕ → Imaged
-lentImage n size call image status i room =
-    cond (eqb (length room) 2112) (imaged n size call image status i) (onChip no-image (chipOf n size) (λ chip. no-image Length))
+unfoldable pub lentImage : ℕ → ℕ → Call → List ℕ → List ℕ → List ℕ → ℕ → List ℕ → Imaged
+lentImage n size call image status failed i room =
+    cond (eqb (length room) 2112) (imaged n size call image status failed i) (onChip no-image (chipOf n size) (λ chip. no-image Length))
 
 -- what is answered, and the lent room after it: as it was beside a refusal
 abbrev pub imageAnswerBy : Imaged → ImageAnswer
@@ -35,11 +36,11 @@ abbrev pub imageAfterBy : Imaged → List ℕ → List ℕ
 imageAfterBy (no-image r) room = room
 imageAfterBy (page-image bytes) room = bytes
 
-unfoldable pub imageAnswer : ℕ → ℕ → Call → List ℕ → List ℕ → ℕ → List ℕ → ImageAnswer
-imageAnswer n size call image status i room = imageAnswerBy (lentImage n size call image status i room)
+unfoldable pub imageAnswer : ℕ → ℕ → Call → List ℕ → List ℕ → List ℕ → ℕ → List ℕ → ImageAnswer
+imageAnswer n size call image status failed i room = imageAnswerBy (lentImage n size call image status failed i room)
 
-unfoldable pub imageAfter : ℕ → ℕ → Call → List ℕ → List ℕ → ℕ → List ℕ → List ℕ
-imageAfter n size call image status i room = imageAfterBy (lentImage n size call image status i room) room
+unfoldable pub imageAfter : ℕ → ℕ → Call → List ℕ → List ℕ → List ℕ → ℕ → List ℕ → List ℕ
+imageAfter n size call image status failed i room = imageAfterBy (lentImage n size call image status failed i room) room
 
 -- the pair's case, judged in that order, with this much room for a page
 unfoldable pub pageCase : ℕ → ℕ → Beside → List ℕ → List ℕ → ℕ → LentCase

@@ -1,20 +1,25 @@
 // The code that plans updates and recoveries of the pair of tables, and makes the page images of their writes. By the pair's case a call
-// comes to a work, and its plan and its page images go by the work.
+// comes to a work, and its first plan and its page images go by the work; what failed steps make of the plan is the crate `retire`.
 ghost use mathlib.Core.Path.{_≡_};
 ghost use Prim.Native.Nat.{_*_, _<_, _≤_};
 ghost use lib.ListN.{length, replicate, take};
 ghost use Rattle.bbt.specs.Images.{chunk, planImage};
 ghost use Rattle.bbt.specs.Plans.{for-update, for-recovery, nextVersion, holds, updateFrom, otherKind};
 ghost use Rattle.region.specs.Stored.{storedParts, storedTable};
-ghost use Rattle.bbt.specs.Told.{chipBlock};
+ghost use Rattle.bbt.specs.Failures.{failures};
+ghost use Rattle.bbt.specs.Pages.{seen};
+ghost use Rattle.bbt.specs.Told.{toldAnswer};
 ghost use Rattle.bitmap.specs.Made.{newEqualsOld};
 ghost use Rattle.chip.specs.Large.{bitmapBytes, pagesOf};
-ghost use Rattle.plan.specs.Answers.{toldAnswer, planAnswer};
+ghost use Rattle.plan.specs.Answers.{planAnswer};
 ghost use Rattle.plan.specs.PageImages.{imageInto, imageAnswerBy, imageAfterBy, pageCase, imageAnswer, imageAfter};
 ghost use Rattle.plan.specs.Works.{updateWork, missingWork, newerWork, recoveryWork, workAnswer, workBitmap, Sourced};
+ghost use Rattle.retire.specs.Retiring.{Lends};
 use bbt::Kind;
 use bbt::PairCase;
 use bbt::Plan;
+use bbt::PlanAnswer;
+use bbt::Retired;
 use bbt::Shape;
 use bbt::Step;
 use chip::ChipAnswer;
@@ -25,12 +30,6 @@ use region::Beside;
 use region::LentCase;
 use region::TargetAnswer;
 
-// What planning answers.
-pub enum PlanAnswer {
-    Planned(Plan),
-    Refused(Refusal),
-}
-
 // What a call comes to by the pair's case.
 enum Work {
     // nothing, and why
@@ -39,8 +38,8 @@ enum Work {
     Keep(RegionBlock),
     // the update rule on the table of the first block, for primary's block and mirror's
     Update(RegionBlock, RegionBlock),
-    // a copy of this kind, from the first block to the second
-    Copy(Kind, RegionBlock, RegionBlock),
+    // a copy, from the first block to the second, of this kind
+    Copy(RegionBlock, RegionBlock, Kind),
     // both bitmaps ANDed, for primary's block and mirror's
     Merge(RegionBlock, RegionBlock),
 }
@@ -76,7 +75,7 @@ fn missing_work(kind: Kind, g: RegionBlock, found: TargetAnswer) -> Work
     match found {
         TargetAnswer::Refused(r) => Work::Refused(r),
         TargetAnswer::Missing => Work::Refused(Refusal::NoTarget),
-        TargetAnswer::Found(b) => Work::Copy(other_kind(kind), g, b),
+        TargetAnswer::Found(b) => Work::Copy(g, b, other_kind(kind)),
     }
 }
 
@@ -85,9 +84,9 @@ fn newer_work(d: i32, p: RegionBlock, m: RegionBlock) -> Work
     ensures { λ r. ⌜ r ≡ newerWork d p m ⌝ }
 {
     if d < 0 {
-        return Work::Copy(Kind::Primary, m, p);
+        return Work::Copy(m, p, Kind::Primary);
     }
-    Work::Copy(Kind::Mirror, p, m)
+    Work::Copy(p, m, Kind::Mirror)
 }
 
 // What a recovery comes to.
@@ -97,7 +96,8 @@ fn recovery_work(n: u64, size: u64, image: &[u8], status: &[u8], c: PairCase) ->
     match c {
         PairCase::Refused(r) => Work::Refused(r),
         PairCase::Alone(kind, g) => {
-            missing_work(kind, g, region::find_target(n, size, image, status, g))
+            let avoid = region::avoiding([false; LargeChip::REGION_PLACES], g);
+            missing_work(kind, g, region::find_target(n, size, image, status, avoid))
         }
         PairCase::Settled(p, _) => Work::Keep(p),
         PairCase::Merging(p, m) => Work::Merge(p, m),
@@ -115,13 +115,14 @@ fn next_version(v: u8) -> u8
     (((v as u16) + 1) % VERSIONS) as u8
 }
 
-// A plan on a chip.
+// A plan on a chip, as it is made.
 fn plan_on(chip: LargeChip, version: u8, shape: Shape) -> PlanAnswer
-    ensures { λ r. ⌜ r ≡ PlanAnswer.Planned (record { version = version; pages = pagesOf chip; shape = shape }) ⌝ }
+    ensures { λ r. ⌜ r ≡ PlanAnswer.Planned (record { chip = chip; version = version; retired = Retired.Nothing; shape = shape }) ⌝ }
 {
     PlanAnswer::Planned(Plan {
+        chip: chip,
         version: version,
-        pages: chip.pages() as u8,
+        retired: Retired::Nothing,
         shape: shape,
     })
 }
@@ -161,10 +162,9 @@ fn new_table_equals_old(chip: LargeChip, image: &[u8], b: RegionBlock, wanted: &
 
 // A plan that writes both copies with the version after this one.
 fn both_copies(chip: LargeChip, version: u8, p: RegionBlock, m: RegionBlock) -> PlanAnswer
-    ensures { λ r. ⌜ r ≡ PlanAnswer.Planned (record { version = nextVersion version; pages = pagesOf chip; shape = Shape.Both (chipBlock chip (p .0)) (chipBlock chip (m .0)) }) ⌝ }
+    ensures { λ r. ⌜ r ≡ PlanAnswer.Planned (record { chip = chip; version = nextVersion version; retired = Retired.Nothing; shape = Shape.Both p m }) ⌝ }
 {
-    let both = Shape::Both(bbt::chip_block(chip, p), bbt::chip_block(chip, m));
-    plan_on(chip, next_version(version), both)
+    plan_on(chip, next_version(version), Shape::Both(p, m))
 }
 
 // The update of a settled pair: nothing where the new table equals the old, else both copies with version plus 1.
@@ -185,7 +185,7 @@ fn settled_update(
     both_copies(chip, v, p, m)
 }
 
-// The plan of a work.
+// The first plan of a work.
 fn plan_of(chip: LargeChip, image: &[u8], wanted: &[u8], work: Work) -> PlanAnswer
     requires { ⌜ Sourced chip (length (now image)) (length (now wanted)) work ⌝ }
     ensures { λ r. ⌜ r ≡ toldAnswer chip (workAnswer chip (now (image .entry)) (now (wanted .entry)) work) ⌝ }
@@ -194,33 +194,68 @@ fn plan_of(chip: LargeChip, image: &[u8], wanted: &[u8], work: Work) -> PlanAnsw
         Work::Refused(r) => PlanAnswer::Refused(r),
         Work::Keep(b) => plan_on(chip, region::version(chip, image, b), Shape::Empty),
         Work::Update(p, m) => settled_update(chip, image, p, m, wanted),
-        Work::Copy(kind, from, to) => {
-            let one = Shape::One(kind, bbt::chip_block(chip, to));
+        Work::Copy(from, to, kind) => {
+            let one = Shape::One(kind, to, from);
             plan_on(chip, region::version(chip, image, from), one)
         }
         Work::Merge(p, m) => both_copies(chip, region::version(chip, image, p), p, m),
     }
 }
 
-// Plans an update of the pair to a wanted bitmap.
-pub fn update_plan(n: u64, size: u64, image: &[u8], status: &[u8], wanted: &[u8]) -> PlanAnswer
-    ensures { λ r. ⌜ r ≡ planAnswer n size (for-update (now (wanted .entry))) (now (image .entry)) (now (status .entry)) ⌝ }
+// The plan of a work once these steps have failed.
+fn plan_after(
+    n: u64,
+    size: u64,
+    chip: LargeChip,
+    image: &[u8],
+    status: &[u8],
+    wanted: &[u8],
+    work: Work,
+    failed: &[u8],
+) -> PlanAnswer
+    requires { ⌜ Sourced chip (length (now image)) (length (now wanted)) work × Lends n size chip (now image) (now status) ⌝ }
+    ensures { λ r. ⌜ r ≡ toldAnswer chip (failures chip (seen chip (now (image .entry)) (now (status .entry))) (workAnswer chip (now (image .entry)) (now (wanted .entry)) work) (now (failed .entry))) ⌝ }
+{
+    let first = plan_of(chip, image, wanted, work);
+    retire::after_failures(n, size, image, status, first, failed)
+}
+
+// Plans an update of the pair to a wanted bitmap, or goes on with one of which these steps have failed.
+pub fn update_plan(
+    n: u64,
+    size: u64,
+    image: &[u8],
+    status: &[u8],
+    wanted: &[u8],
+    failed: &[u8],
+) -> PlanAnswer
+    ensures { λ r. ⌜ r ≡ planAnswer n size (for-update (now (wanted .entry))) (now (image .entry)) (now (status .entry)) (now (failed .entry)) ⌝ }
 {
     match region::case_of(n, size, Beside::Bitmap(wanted.len()), image, status) {
         LentCase::Refused(r) => PlanAnswer::Refused(r),
-        LentCase::Case(chip, c) => plan_of(chip, image, wanted, update_work(c)),
+        LentCase::Case(chip, c) => {
+            let work = update_work(c);
+            if failed.len() == 0 {
+                return plan_of(chip, image, wanted, work);
+            }
+            plan_after(n, size, chip, image, status, wanted, work, failed)
+        }
     }
 }
 
-// Plans a recovery of the pair.
-pub fn recovery_plan(n: u64, size: u64, image: &[u8], status: &[u8]) -> PlanAnswer
-    ensures { λ r. ⌜ r ≡ planAnswer n size for-recovery (now (image .entry)) (now (status .entry)) ⌝ }
+// Plans a recovery of the pair, or goes on with one of which these steps have failed.
+pub fn recovery_plan(n: u64, size: u64, image: &[u8], status: &[u8], failed: &[u8]) -> PlanAnswer
+    ensures { λ r. ⌜ r ≡ planAnswer n size for-recovery (now (image .entry)) (now (status .entry)) (now (failed .entry)) ⌝ }
 {
     match region::case_of(n, size, Beside::Nothing, image, status) {
         LentCase::Refused(r) => PlanAnswer::Refused(r),
         LentCase::Case(chip, c) => {
             let work = recovery_work(n, size, image, status, c);
-            plan_of(chip, image, &image[0..0], work)
+            let nothing = &image[0..0];
+            if failed.len() == 0 {
+                return plan_of(chip, image, nothing, work);
+            }
+            plan_after(n, size, chip, image, status, nothing, work, failed)
         }
     }
 }
@@ -279,7 +314,7 @@ fn new_part(
             bitmap::update_into(old, chunk_of(wanted, p), &mut out[0..n]);
             n
         }
-        Work::Copy(_, b, _) => {
+        Work::Copy(b, _, _) => {
             let old = region::part(chip, image, b, p);
             let n = old.len();
             bits::copy(old, &mut out[0..n]);
@@ -300,25 +335,30 @@ pub enum ImageAnswer {
     Refused(Refusal),
 }
 
-// The page image of a work's step.
+// The page image of a step of a work's plan, once these steps have failed.
 fn page_of(
+    n: u64,
+    size: u64,
     chip: LargeChip,
     image: &[u8],
+    status: &[u8],
     wanted: &[u8],
     work: Work,
+    failed: &[u8],
     step: u64,
     page: &mut [u8],
 ) -> ImageAnswer
-    requires { ⌜ Sourced chip (length (now image)) (length (now wanted)) work × (length (now page) ≡ 2112) ⌝ }
-    ensures answer { λ r. ⌜ r ≡ imageAnswerBy (planImage chip (workAnswer chip (now (image .entry)) (now (wanted .entry)) work) step) ⌝ }
-    ensures out { λ _. ⌜ now (page .exit) ≡ imageAfterBy (planImage chip (workAnswer chip (now (image .entry)) (now (wanted .entry)) work) step) (now (page .entry)) ⌝ }
+    requires { ⌜ Sourced chip (length (now image)) (length (now wanted)) work × Lends n size chip (now image) (now status) × (length (now page) ≡ 2112) ⌝ }
+    ensures answer { λ r. ⌜ r ≡ imageAnswerBy (planImage chip (failures chip (seen chip (now (image .entry)) (now (status .entry))) (workAnswer chip (now (image .entry)) (now (wanted .entry)) work) (now (failed .entry))) step) ⌝ }
+    ensures out { λ _. ⌜ now (page .exit) ≡ imageAfterBy (planImage chip (failures chip (seen chip (now (image .entry)) (now (status .entry))) (workAnswer chip (now (image .entry)) (now (wanted .entry)) work) (now (failed .entry))) step) (now (page .entry)) ⌝ }
 {
-    match plan_of(chip, image, wanted, work) {
+    match plan_after(n, size, chip, image, status, wanted, work, failed) {
         PlanAnswer::Refused(r) => ImageAnswer::Refused(r),
         PlanAnswer::Planned(plan) => {
             let version = plan.version;
             match plan.step(step) {
                 Step::Erase(_) => ImageAnswer::Refused(Refusal::Range),
+                Step::Zero(_) => ImageAnswer::Refused(Refusal::Range),
                 Step::Past => ImageAnswer::Refused(Refusal::Range),
                 Step::Write(_, p, kind) => {
                     let mut part = [0u8; LargeChip::PAGE];
@@ -351,18 +391,19 @@ fn page_case(
     }
 }
 
-// The page image of a step of an update's plan, by the snapshot that the plan was made from.
+// The page image of a step of an update's plan, by the snapshot that the first plan was made from, and the steps that have failed since.
 pub fn update_page(
     n: u64,
     size: u64,
     image: &[u8],
     status: &[u8],
     wanted: &[u8],
+    failed: &[u8],
     step: u64,
     page: &mut [u8],
 ) -> ImageAnswer
-    ensures answer { λ r. ⌜ r ≡ imageAnswer n size (for-update (now (wanted .entry))) (now (image .entry)) (now (status .entry)) step (now (page .entry)) ⌝ }
-    ensures out { λ _. ⌜ now (page .exit) ≡ imageAfter n size (for-update (now (wanted .entry))) (now (image .entry)) (now (status .entry)) step (now (page .entry)) ⌝ }
+    ensures answer { λ r. ⌜ r ≡ imageAnswer n size (for-update (now (wanted .entry))) (now (image .entry)) (now (status .entry)) (now (failed .entry)) step (now (page .entry)) ⌝ }
+    ensures out { λ _. ⌜ now (page .exit) ≡ imageAfter n size (for-update (now (wanted .entry))) (now (image .entry)) (now (status .entry)) (now (failed .entry)) step (now (page .entry)) ⌝ }
 {
     match page_case(
         n,
@@ -373,27 +414,53 @@ pub fn update_page(
         page.len(),
     ) {
         LentCase::Refused(r) => ImageAnswer::Refused(r),
-        LentCase::Case(chip, c) => page_of(chip, image, wanted, update_work(c), step, page),
+        LentCase::Case(chip, c) => {
+            let work = update_work(c);
+            page_of(
+                n,
+                size,
+                chip,
+                image,
+                status,
+                wanted,
+                work,
+                failed,
+                step,
+                page,
+            )
+        }
     }
 }
 
-// The page image of a step of a recovery's plan, by the snapshot that the plan was made from.
+// The page image of a step of a recovery's plan, by the snapshot that the first plan was made from, and the steps that have failed since.
 pub fn recovery_page(
     n: u64,
     size: u64,
     image: &[u8],
     status: &[u8],
+    failed: &[u8],
     step: u64,
     page: &mut [u8],
 ) -> ImageAnswer
-    ensures answer { λ r. ⌜ r ≡ imageAnswer n size for-recovery (now (image .entry)) (now (status .entry)) step (now (page .entry)) ⌝ }
-    ensures out { λ _. ⌜ now (page .exit) ≡ imageAfter n size for-recovery (now (image .entry)) (now (status .entry)) step (now (page .entry)) ⌝ }
+    ensures answer { λ r. ⌜ r ≡ imageAnswer n size for-recovery (now (image .entry)) (now (status .entry)) (now (failed .entry)) step (now (page .entry)) ⌝ }
+    ensures out { λ _. ⌜ now (page .exit) ≡ imageAfter n size for-recovery (now (image .entry)) (now (status .entry)) (now (failed .entry)) step (now (page .entry)) ⌝ }
 {
     match page_case(n, size, Beside::Nothing, image, status, page.len()) {
         LentCase::Refused(r) => ImageAnswer::Refused(r),
         LentCase::Case(chip, c) => {
             let work = recovery_work(n, size, image, status, c);
-            page_of(chip, image, &image[0..0], work, step, page)
+            page_of(
+                n,
+                size,
+                chip,
+                image,
+                status,
+                &image[0..0],
+                work,
+                failed,
+                step,
+                page,
+            )
         }
     }
 }

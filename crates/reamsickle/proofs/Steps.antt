@@ -11,24 +11,24 @@ use lib.Seq.{length-take-le, take-at, drop-at, drop-drop}
 use Rattle.bbt.proofs.Raw.{chip-valid}
 use Rattle.bbt.proofs.ToldSteps.{count-by}
 use Rattle.bbt.specs.Lent.{onChip, lentPlan}
-use Rattle.bbt.specs.Plans.{Call, Answer, refuse, plan, idle, single, double}
-use Rattle.bbt.specs.Told.{chipBlock, nthStep}
-use Rattle.bbt.specs.declared.Shape.the-variants.{Empty, One, Both}
+use Rattle.bbt.specs.Plans.{Call, Answer, refuse, plan, Job, idle, single, double}
+use Rattle.bbt.specs.Told.{toldShape, toldRetired, toldAnswer, stepsBy, retiredFirst, nthStep}
+use Rattle.bbt.specs.declared.PlanAnswer.the-variants.{Refused}
 use Rattle.bbt.specs.declared.Step.{Step}
-use Rattle.bbt.specs.declared.Step.the-variants.{Erase, Write, Past}
+use Rattle.bbt.specs.declared.Step.the-variants.{Erase, Write, Zero, Past}
 use Rattle.bits.proofs.Filling.{copied-same}
 use Rattle.bits.specs.Bytes.{copied}
 use Rattle.chip.specs.Large.{chipOf, pagesOf}
 use Rattle.chip.specs.declared.ChipAnswer.{ChipAnswer}
 use Rattle.chip.specs.declared.ChipAnswer.the-variants.{Chip, Refused as NoChip}
 use Rattle.chip.specs.declared.LargeChip.{LargeChip}
-use Rattle.plan.specs.Answers.{toldAnswer, planAnswer}
-use Rattle.plan.specs.declared.PlanAnswer.the-variants.{Refused}
+use Rattle.plan.specs.Answers.{planAnswer}
 use Rattle.reamsickle.specs.LargeBoundary.{stepBytes, planBytes, stepsPut, roomOf}
 
 four-long : (s : Step) → length (stepBytes s) ≡ 4
 four-long (Erase b) = refl
 four-long (Write b p k) = refl
+four-long (Zero b) = refl
 four-long Past = refl
 
 plan-long : (es : List Step) → length (planBytes es) ≡ 4 * length es
@@ -79,17 +79,25 @@ module _ (es : List Step) (room : List ℕ) where
       ∙ ap (λ (a : List ℕ). a ++ drop (4 * length (take (suc k) es)) room) (sym (plan-next es k h))
       ∙ ap (λ (m : ℕ). planBytes (take m es) ++ drop (4 * length (take m es)) room) (sym (add-one k))
 
--- at most 2P + 2 steps, and P is at most 4
-pub plan-room : (n size : ℕ) (call : Call) (image status : List ℕ) → roomOf (planAnswer n size call image status) ≤ 64
+-- at most 2P + 3 steps, and P is at most 4
+job-count : (chip : LargeChip) (j : Job) → length (stepsBy chip (toldShape j)) ≤ 2 * pagesOf chip + 2
+job-count chip (idle v) = omega (arith, count-by chip (toldShape (idle v)))
+job-count chip (single k b g t) = omega (arith, count-by chip (toldShape (single k b g t)))
+job-count chip (double p m t) = omega (arith, count-by chip (toldShape (double p m t)))
+
+one-more : (chip : LargeChip) (bs : List ℕ) (es : List Step) → length (retiredFirst chip (toldRetired bs) es) ≤ length es + 1
+unfolding retiredFirst
+one-more chip [] es = omega arith
+one-more chip (b ∷ bs) es = omega arith
+
+pub plan-room : (n size : ℕ) (call : Call) (image status failed : List ℕ) → roomOf (planAnswer n size call image status failed) ≤ 64
 unfolding planAnswer
-plan-room n size call image status = go (chipOf n size) refl
+plan-room n size call image status failed = go (chipOf n size) refl
   where
     told : (chip : LargeChip) → pagesOf chip ≤ 4 → (a : Answer) → roomOf (toldAnswer chip a) ≤ 64
     told chip h (refuse r) = omega arith
-    told chip h (plan (idle v)) = omega (arith, count-by (pagesOf chip) Empty)
-    told chip h (plan (single k b g t)) = omega (arith, h, count-by (pagesOf chip) (One k (chipBlock chip b)))
-    told chip h (plan (double p m t)) = omega (arith, h, count-by (pagesOf chip) (Both (chipBlock chip p) (chipBlock chip m)))
+    told chip h (plan q) = omega (arith, h, one-more chip (q .failed) (stepsBy chip (toldShape (q .job))), job-count chip (q .job))
 
-    go : (a : ChipAnswer) → chipOf n size ≡ a → roomOf (onChip Refused a (λ chip. toldAnswer chip (lentPlan chip call image status))) ≤ 64
+    go : (a : ChipAnswer) → chipOf n size ≡ a → roomOf (onChip Refused a (λ chip. toldAnswer chip (lentPlan chip call image status failed))) ≤ 64
     go (NoChip r) e = omega arith
-    go (Chip chip) e = told chip (chip-valid n size chip e .few-pages) (lentPlan chip call image status)
+    go (Chip chip) e = told chip (chip-valid n size chip e .few-pages) (lentPlan chip call image status failed)

@@ -8,8 +8,10 @@ use lib.ListN.{length, drop}
 use Rattle.bbt.specs.Lent.{onChip}
 use Rattle.bbt.specs.Plans.{Call}
 use Rattle.bbt.specs.Told.{toldSteps}
+use Rattle.bbt.specs.declared.PlanAnswer.{PlanAnswer}
+use Rattle.bbt.specs.declared.PlanAnswer.the-variants.{Planned, Refused as NotPlanned}
 use Rattle.bbt.specs.declared.Step.{Step}
-use Rattle.bbt.specs.declared.Step.the-variants.{Erase, Write, Past}
+use Rattle.bbt.specs.declared.Step.the-variants.{Erase, Write, Zero, Past}
 use Rattle.bitmap.specs.Made.{firstAnswer}
 use Rattle.bitmap.specs.declared.BitmapAnswer.{BitmapAnswer}
 use Rattle.bitmap.specs.declared.BitmapAnswer.the-variants.{Made, Refused as NotMade}
@@ -18,8 +20,6 @@ use Rattle.chip.specs.declared.Refusal.the-variants.{Length}
 use Rattle.plan.specs.PageImages.{imageAnswer}
 use Rattle.plan.specs.declared.ImageAnswer.{ImageAnswer}
 use Rattle.plan.specs.declared.ImageAnswer.the-variants.{Made as ImageMade, Refused as NoImage}
-use Rattle.plan.specs.declared.PlanAnswer.{PlanAnswer}
-use Rattle.plan.specs.declared.PlanAnswer.the-variants.{Planned, Refused as NotPlanned}
 use Rattle.region.specs.Tables.{tableAnswer}
 use Rattle.region.specs.declared.TableAnswer.{TableAnswer}
 use Rattle.region.specs.declared.TableAnswer.the-variants.{Read, Refused as NotRead}
@@ -50,6 +50,7 @@ fourBytes kind block page = kind ∷ block / 256 % 256 ∷ block % 256 ∷ page 
 abbrev pub stepBytes : Step → List ℕ
 stepBytes (Erase b) = fourBytes 0 (b .0) 0
 stepBytes (Write b p k) = fourBytes 1 (b .0) p
+stepBytes (Zero b) = fourBytes 2 (b .0) 0
 stepBytes Past = fourBytes 0 0 0
 
 unfoldable pub planBytes : List Step → List ℕ
@@ -86,5 +87,5 @@ abbrev pub imageCodeBy : ImageAnswer → ℕ
 imageCodeBy ImageMade = 0
 imageCodeBy (NoImage r) = refusalCode r
 
-unfoldable pub imageCode : ℕ → ℕ → Call → List ℕ → List ℕ → ℕ → List ℕ → ℕ
-imageCode n size call image status i room = imageCodeBy (imageAnswer n size call image status i room)
+unfoldable pub imageCode : ℕ → ℕ → Call → List ℕ → List ℕ → List ℕ → ℕ → List ℕ → ℕ
+imageCode n size call image status failed i room = imageCodeBy (imageAnswer n size call image status failed i room)

@@ -13,6 +13,7 @@ ghost use Rattle.reamsickle.specs.LargeBoundary.{firstCode, tableCode, s
 ghost use Rattle.region.specs.Tables.{tableAfter};
 ghost use Rattle.spare.specs.Writing.{spareAfter};
 use bbt::Plan;
+use bbt::PlanAnswer;
 use bbt::Step;
 use bitmap::BitmapAnswer;
 use chip::ChipAnswer;
@@ -20,7 +21,6 @@ use chip::LargeChip;
 use chip::Refusal;
 use chip::SmallChip;
 use plan::ImageAnswer;
-use plan::PlanAnswer;
 use region::TableAnswer;
 use spare::PageAnswer;
 use spare::SpareAnswer;
@@ -184,6 +184,7 @@ fn step_bytes(step: Step) -> [u8; 4]
     match step {
         Step::Erase(b) => [0, (b.0 / 256 % 256) as u8, (b.0 % 256) as u8, 0],
         Step::Write(b, page, _) => [1, (b.0 / 256 % 256) as u8, (b.0 % 256) as u8, page],
+        Step::Zero(b) => [2, (b.0 / 256 % 256) as u8, (b.0 % 256) as u8, 0],
         Step::Past => [0, 0, 0, 0],
     }
 }
@@ -235,7 +236,8 @@ fn tell_plan(n: u64, size: u64, answer: PlanAnswer, steps: &mut [u8]) -> u64
     }
 }
 
-// Plans an update: the region image, its status bytes and the wanted bitmap in, up to sixteen steps out.
+// Plans an update, or goes on with one of which steps have failed: the region image, its status bytes, the wanted bitmap and the failed steps'
+// numbers in, up to sixteen steps out.
 #[no_mangle]
 pub extern "C" fn ream_update_plan(
     n: u64,
@@ -243,32 +245,40 @@ pub extern "C" fn ream_update_plan(
     image: &[u8],
     status: &[u8],
     wanted: &[u8],
+    failed: &[u8],
     steps: &mut [u8],
 ) -> u64
-    ensures answer { λ r. ⌜ r ≡ planCode n size (planAnswer n size (for-update (now (wanted .entry))) (now (image .entry)) (now (status .entry))) (now (steps .entry)) ⌝ }
-    ensures out { λ _. ⌜ now (steps .exit) ≡ stepsAfter (planAnswer n size (for-update (now (wanted .entry))) (now (image .entry)) (now (status .entry))) (now (steps .entry)) ⌝ }
+    ensures answer { λ r. ⌜ r ≡ planCode n size (planAnswer n size (for-update (now (wanted .entry))) (now (image .entry)) (now (status .entry)) (now (failed .entry))) (now (steps .entry)) ⌝ }
+    ensures out { λ _. ⌜ now (steps .exit) ≡ stepsAfter (planAnswer n size (for-update (now (wanted .entry))) (now (image .entry)) (now (status .entry)) (now (failed .entry))) (now (steps .entry)) ⌝ }
 {
     tell_plan(
         n,
         size,
-        plan::update_plan(n, size, image, status, wanted),
+        plan::update_plan(n, size, image, status, wanted, failed),
         steps,
     )
 }
 
-// Plans a recovery: the region image and its status bytes in, up to sixteen steps out.
+// Plans a recovery, or goes on with one of which steps have failed: the region image, its status bytes and the failed steps' numbers in, up to
+// sixteen steps out.
 #[no_mangle]
 pub extern "C" fn ream_recovery_plan(
     n: u64,
     size: u64,
     image: &[u8],
     status: &[u8],
+    failed: &[u8],
     steps: &mut [u8],
 ) -> u64
-    ensures answer { λ r. ⌜ r ≡ planCode n size (planAnswer n size for-recovery (now (image .entry)) (now (status .entry))) (now (steps .entry)) ⌝ }
-    ensures out { λ _. ⌜ now (steps .exit) ≡ stepsAfter (planAnswer n size for-recovery (now (image .entry)) (now (status .entry))) (now (steps .entry)) ⌝ }
+    ensures answer { λ r. ⌜ r ≡ planCode n size (planAnswer n size for-recovery (now (image .entry)) (now (status .entry)) (now (failed .entry))) (now (steps .entry)) ⌝ }
+    ensures out { λ _. ⌜ now (steps .exit) ≡ stepsAfter (planAnswer n size for-recovery (now (image .entry)) (now (status .entry)) (now (failed .entry))) (now (steps .entry)) ⌝ }
 {
-    tell_plan(n, size, plan::recovery_plan(n, size, image, status), steps)
+    tell_plan(
+        n,
+        size,
+        plan::recovery_plan(n, size, image, status, failed),
+        steps,
+    )
 }
 
 // What asking for a page image answered, as a number.
@@ -281,7 +291,7 @@ fn image_code(answer: ImageAnswer) -> u64
     }
 }
 
-// The page image of a step of an update's plan: what the plan was made from and the step's number in, 2,112 bytes out.
+// The page image of a step of an update's plan: what the plan was made from, the failed steps' numbers and the step's number in, 2,112 bytes out.
 #[no_mangle]
 pub extern "C" fn ream_update_page(
     n: u64,
@@ -289,27 +299,29 @@ pub extern "C" fn ream_update_page(
     image: &[u8],
     status: &[u8],
     wanted: &[u8],
+    failed: &[u8],
     step: u64,
     page: &mut [u8],
 ) -> u64
-    ensures answer { λ r. ⌜ r ≡ imageCode n size (for-update (now (wanted .entry))) (now (image .entry)) (now (status .entry)) step (now (page .entry)) ⌝ }
-    ensures out { λ _. ⌜ now (page .exit) ≡ imageAfter n size (for-update (now (wanted .entry))) (now (image .entry)) (now (status .entry)) step (now (page .entry)) ⌝ }
+    ensures answer { λ r. ⌜ r ≡ imageCode n size (for-update (now (wanted .entry))) (now (image .entry)) (now (status .entry)) (now (failed .entry)) step (now (page .entry)) ⌝ }
+    ensures out { λ _. ⌜ now (page .exit) ≡ imageAfter n size (for-update (now (wanted .entry))) (now (image .entry)) (now (status .entry)) (now (failed .entry)) step (now (page .entry)) ⌝ }
 {
-    image_code(plan::update_page(n, size, image, status, wanted, step, page))
+    image_code(plan::update_page(n, size, image, status, wanted, failed, step, page))
 }
 
-// The page image of a step of a recovery's plan: what the plan was made from and the step's number in, 2,112 bytes out.
+// The page image of a step of a recovery's plan: what the plan was made from, the failed steps' numbers and the step's number in, 2,112 bytes out.
 #[no_mangle]
 pub extern "C" fn ream_recovery_page(
     n: u64,
     size: u64,
     image: &[u8],
     status: &[u8],
+    failed: &[u8],
     step: u64,
     page: &mut [u8],
 ) -> u64
-    ensures answer { λ r. ⌜ r ≡ imageCode n size for-recovery (now (image .entry)) (now (status .entry)) step (now (page .entry)) ⌝ }
-    ensures out { λ _. ⌜ now (page .exit) ≡ imageAfter n size for-recovery (now (image .entry)) (now (status .entry)) step (now (page .entry)) ⌝ }
+    ensures answer { λ r. ⌜ r ≡ imageCode n size for-recovery (now (image .entry)) (now (status .entry)) (now (failed .entry)) step (now (page .entry)) ⌝ }
+    ensures out { λ _. ⌜ now (page .exit) ≡ imageAfter n size for-recovery (now (image .entry)) (now (status .entry)) (now (failed .entry)) step (now (page .entry)) ⌝ }
 {
-    image_code(plan::recovery_page(n, size, image, status, step, page))
+    image_code(plan::recovery_page(n, size, image, status, failed, step, page))
 }

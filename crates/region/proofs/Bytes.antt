@@ -10,8 +10,8 @@ use lib.Dec.{eqb}
 use lib.ListN.{getD}
 use Rattle.bits.specs.Bytes.{word}
 use Rattle.bbt.proofs.Raw.{page-below, page-byte}
-use Rattle.bbt.specs.Copies.{all, good}
-use Rattle.bbt.specs.Pages.{kindOf, kindOfWord, kindWord, sameKind, seen, pageBytes, pageStatus}
+use Rattle.bbt.specs.Copies.{good}
+use Rattle.bbt.specs.Pages.{all, kindOf, kindOfWord, kindWord, sameKind, seen, pageBytes, pageStatus}
 use Rattle.bbt.specs.declared.Kind.{Kind}
 use Rattle.bbt.specs.declared.Kind.the-variants.{Primary, Mirror, Neither}
 use Rattle.chip.specs.Large.{pagesOf, regionPages}

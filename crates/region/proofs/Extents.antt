@@ -17,7 +17,7 @@ use Rattle.chip.specs.Large.{isBlocks, isRegion, chipOf, pagesOf}
 use Rattle.chip.specs.Refusals.{refusalNumber}
 use Rattle.chip.specs.declared.LargeChip.{LargeChip}
 use Rattle.chip.specs.declared.Refusal.{Refusal}
-use Rattle.chip.specs.declared.Refusal.the-variants.{Length, Range, BadBlock, Tag, Magic, Unrepairable, NoCopy, SeveralCopies, Opposite, NotSettled, NoTarget}
+use Rattle.chip.specs.declared.Refusal.the-variants.{Length, Range, BadBlock, Tag, Magic, Unrepairable, NoCopy, SeveralCopies, Opposite, NotSettled, NoTarget, ZeroFailed}
 use Rattle.region.specs.declared.Extent.{Extent}
 use Rattle.region.specs.declared.OobAnswer.{OobAnswer}
 use Rattle.region.specs.declared.OobAnswer.the-variants.{Given, Refused}
@@ -63,6 +63,7 @@ number-above SeveralCopies = omega arith
 number-above Opposite = omega arith
 number-above NotSettled = omega arith
 number-above NoTarget = omega arith
+number-above ZeroFailed = omega arith
 
 pub oob-by-number : (e : Extent) (image : List ℕ) (block page : ℕ) → OobByNumber e image block page
 unfolding oobBytes

@@ -6,3 +6,4 @@ pub mod Copying
 pub mod Judged
 pub mod Bridge
 pub mod Extents
+pub mod Flagging

@@ -2,20 +2,20 @@
 -- good block, a block readable as bad, and the table of a good block. A page that marks its block as bad has neither signature, so it fails
 -- as a page of a copy either way.
 -- Assumes nothing.
-use mathlib.Core.Bool.{Bool, true, false, _&&_, true≢false, false≢true}
+use mathlib.Core.Bool.{Bool, true, false, _&&_, _||_, true≢false, false≢true}
 use mathlib.Core.List.{List, _++_}
 use mathlib.Core.Path.{_≡_, refl, sym, ap, ap₂, _∙_}
 use Prim.Native.Nat.{ℕ, zero, suc, _+_, _*_, _<_, _≤_}
 use native.Mathlib.Nat.{add-zero}
 use native.Mathlib.Numerals.{add-one}
 use native.Mathlib.Omega.{arith}
-use borrow.Author.Tests.{eq-eqb}
+use borrow.Author.Tests.{eqb-true, eq-eqb}
 use lib.Dec.{eqb}
 use lib.ListN.{take, drop, getD}
 use lib.Seq.{take-take}
 use Rattle.bits.proofs.Both.{both-left, both-right}
-use Rattle.bbt.specs.Copies.{pageVersion, pagePart, isPage, isMarked, all, good, readsBad, parts, table}
-use Rattle.bbt.specs.Pages.{sameKind, pageStatus, pageBytes, kindOf, versionOf, partLength, reads, badPage, pageOf, View, seen}
+use Rattle.bbt.specs.Copies.{pageVersion, pagePart, isPage, isMarked, good, readsBad, parts, table}
+use Rattle.bbt.specs.Pages.{all, sameKind, pageStatus, pageBytes, kindOfWord, kindOf, versionOf, partLength, reads, badMark, zeroOob, badPage, pageOf, View, seen}
 use Rattle.bbt.specs.declared.Kind.{Kind}
 use Rattle.bbt.specs.declared.Kind.the-variants.{Primary, Mirror, Neither}
 use Rattle.bbt.proofs.Searches.{all-at, all-not, all-cong}
@@ -45,13 +45,27 @@ neither-is Primary e = absurd (false≢true e)
 neither-is Mirror e = absurd (false≢true e)
 neither-is Neither e = refl
 
+-- 64 zero OOB bytes spell neither signature
+zero-neither : (l : List ℕ) → zeroOob l ≡ true → kindOf l ≡ Neither
+unfolding zeroOob kindOf kindOfWord
+zero-neither l h =
+    let byte : (j : ℕ) → j < 64 → getD l (2048 + j) 0 ≡ 0
+    = λ j b. eqb-true (getD l (2048 + j) 0) 0 (all-at 64 (λ j. eqb (getD l (2048 + j) 0) 0) h j b) in
+    rw (byte 14 (omega arith), byte 15 (omega arith), byte 16 (omega arith), byte 17 (omega arith))
+
 bad-neither : (p s : ℕ) (l : List ℕ) → badPage p s l ≡ true → kindOf l ≡ Neither
-unfolding badPage
-bad-neither p s l h =
-    let neither : Bool = sameKind (kindOf l) Neither in
-    let zeroed : Bool = eqb (getD l 2048 0) 0 in
-    neither-is (kindOf l)
-    (both-left neither zeroed (both-right (eqb s 0) (neither && zeroed) (both-right (eqb p 0) (eqb s 0 && (neither && zeroed)) h)))
+unfolding badPage badMark
+bad-neither p s l h = go (badMark s l) refl (both-right (eqb p 0) (badMark s l || zeroOob l) h)
+  where
+    neither : Bool
+    neither = sameKind (kindOf l) Neither
+
+    zeroed : Bool
+    zeroed = eqb (getD l 2048 0) 0
+
+    go : (t : Bool) → badMark s l ≡ t → (t || zeroOob l) ≡ true → kindOf l ≡ Neither
+    go true a e = neither-is (kindOf l) (both-left neither zeroed (both-right (eqb s 0) (neither && zeroed) a))
+    go false a e = zero-neither l e
 
 page-raw : (chip : LargeChip) (k : Kind) (v p s : ℕ) (l : List ℕ) → sameKind k Neither ≡ false → isPage k v (pageOf chip p s l) ≡ pageMatches k v s l
 unfolding pageOf isPage pageMatches

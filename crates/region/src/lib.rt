@@ -1,13 +1,12 @@
 // The code that reads a lent region image: good copies, the pair's case, reading a settled pair, and the OOB bytes of a page.
-ghost use mathlib.Core.List.{_∷_, []};
+ghost use mathlib.Core.Bool.{true};
 ghost use mathlib.Core.Path.{_≡_};
 ghost use Prim.Native.Nat.{_+_, _*_, _<_, _≤_};
-ghost use lib.ListN.{length};
+ghost use lib.ListN.{length, set};
 ghost use Rattle.bbt.specs.Copies.{good, readsBad};
 ghost use Rattle.bbt.specs.Lent.{statusesRight};
-ghost use Rattle.bbt.specs.Pages.{kindOf, versionOf, pageBytes, pageStatus, seen, partLength};
+ghost use Rattle.bbt.specs.Pages.{kindOf, versionOf, pageBytes, pageStatus, zeroOob, seen, partLength};
 ghost use Rattle.bbt.specs.Pairs.{same, compared, pairCase};
-ghost use Rattle.bbt.specs.Plans.{isFree, target};
 ghost use Rattle.region.specs.Stored.{storedParts, storedTable};
 ghost use Rattle.bbt.specs.Told.{toldCase};
 ghost use Rattle.chip.specs.Large.{bitmapBytes, pagesOf};
@@ -15,7 +14,7 @@ ghost use Rattle.region.specs.Cases.{Fits, isSigned, pageMatches, alsoLo
 ghost use Rattle.region.specs.Oob.{OobOf, extentOf, oobAnswer};
 ghost use Rattle.region.specs.Parts.{partOf};
 ghost use Rattle.region.specs.Tables.{tableAfter, tableAnswer};
-ghost use Rattle.region.specs.Targets.{toldTarget, targetOn, lentTarget};
+ghost use Rattle.region.specs.Targets.{isFreeBy, toldTarget, targetBy, targetOn, lentTarget};
 use bbt::Kind;
 use bbt::PairCase;
 use chip::ChipAnswer;
@@ -287,43 +286,87 @@ pub fn case_of(n: u64, size: u64, beside: Beside, image: &[u8], status: &[u8]) -
     }
 }
 
-// Is region block b readable as bad: its first page reads well, has neither signature, and OOB byte 0 is 0?
+// Does page i show 64 zero OOB bytes?
+fn zero_oob(image: &[u8], i: usize) -> bool
+    requires { ⌜ (i + 1) * 2112 ≤ length (now image) ⌝ }
+    ensures { λ r. ⌜ r ≡ zeroOob (pageBytes (now (image .entry)) i) ⌝ }
+{
+    let at = i * LargeChip::PAGE_WITH_OOB + LargeChip::PAGE;
+    let mut j: usize = 0;
+    while j < LargeChip::OOB {
+        if image[at + j] != 0 {
+            return false;
+        }
+        j += 1;
+    }
+    true
+}
+
+// Is region block b readable as bad: its first page reads well, has neither signature, and OOB byte 0 is 0, or it shows 64 zero OOB bytes?
 fn reads_bad(chip: LargeChip, image: &[u8], status: &[u8], b: RegionBlock) -> bool
     requires { ⌜ Fits chip (length (now image)) (length (now status)) × (b .0 < chip .region) ⌝ }
     ensures { λ r. ⌜ r ≡ readsBad (seen chip (now (image .entry)) (now (status .entry))) (b .0) ⌝ }
 {
     let first = (b.0 as usize) * chip.pages();
-    if status[first] != 0 {
+    if image[first * LargeChip::PAGE_WITH_OOB + LargeChip::PAGE] != 0 {
         return false;
     }
-    if kind_at(image, first).signature() != Kind::Neither.signature() {
-        return false;
+    if status[first] == 0 {
+        if kind_at(image, first).signature() == Kind::Neither.signature() {
+            return true;
+        }
     }
-    image[first * LargeChip::PAGE_WITH_OOB + LargeChip::PAGE] == 0
+    zero_oob(image, first)
 }
 
-// May region block b be a target beside the block to avoid?
-fn is_free(chip: LargeChip, image: &[u8], status: &[u8], avoid: RegionBlock, b: RegionBlock) -> bool
-    requires { ⌜ Fits chip (length (now image)) (length (now status)) × (b .0 < chip .region) ⌝ }
-    ensures { λ r. ⌜ r ≡ isFree (seen chip (now (image .entry)) (now (status .entry))) (avoid .0 ∷ []) (b .0) ⌝ }
+// The blocks to avoid, with one more.
+pub fn avoiding(
+    avoid: [bool; LargeChip::REGION_PLACES],
+    b: RegionBlock,
+) -> [bool; LargeChip::REGION_PLACES]
+    ensures { λ r. ⌜ r ≡ set avoid (b .0) true ⌝ }
 {
-    if b.0 == avoid.0 {
+    let mut more = avoid;
+    let i = b.0 as usize;
+    if i < LargeChip::REGION_PLACES {
+        more[i] = true;
+    }
+    more
+}
+
+// May region block b be a target beside the blocks to avoid?
+fn is_free(
+    chip: LargeChip,
+    image: &[u8],
+    status: &[u8],
+    avoid: [bool; LargeChip::REGION_PLACES],
+    b: RegionBlock,
+) -> bool
+    requires { ⌜ Fits chip (length (now image)) (length (now status)) × (b .0 < chip .region) × (chip .region ≤ 7) ⌝ }
+    ensures { λ r. ⌜ r ≡ isFreeBy (seen chip (now (image .entry)) (now (status .entry))) avoid (b .0) ⌝ }
+{
+    if avoid[b.0 as usize] {
         return false;
     }
     !reads_bad(chip, image, status, b)
 }
 
-// The target of a recovery, that there is none, or the refusal of what was lent.
+// A target, that there is none, or the refusal of what was lent.
 pub enum TargetAnswer {
     Found(RegionBlock),
     Missing,
     Refused(Refusal),
 }
 
-// The highest block that is neither the one to avoid nor readable as bad: the first that will do, from the highest down.
-fn highest_free(chip: LargeChip, image: &[u8], status: &[u8], avoid: RegionBlock) -> TargetAnswer
-    requires { ⌜ Fits chip (length (now image)) (length (now status)) ⌝ }
-    ensures { λ r. ⌜ r ≡ toldTarget (target chip (seen chip (now (image .entry)) (now (status .entry))) (avoid .0 ∷ [])) ⌝ }
+// The highest block that is neither to be avoided nor readable as bad: the first that will do, from the highest down.
+fn highest_free(
+    chip: LargeChip,
+    image: &[u8],
+    status: &[u8],
+    avoid: [bool; LargeChip::REGION_PLACES],
+) -> TargetAnswer
+    requires { ⌜ Fits chip (length (now image)) (length (now status)) × (chip .region ≤ 7) ⌝ }
+    ensures { λ r. ⌜ r ≡ toldTarget (targetBy chip (seen chip (now (image .entry)) (now (status .entry))) avoid) ⌝ }
 {
     let mut above = chip.region;
     while 0 < above {
@@ -337,9 +380,14 @@ fn highest_free(chip: LargeChip, image: &[u8], status: &[u8], avoid: RegionBlock
 }
 
 // The target of a region lent on a judged chip.
-fn target_on(chip: LargeChip, image: &[u8], status: &[u8], avoid: RegionBlock) -> TargetAnswer
-    requires { ⌜ (0 < pagesOf chip) × (pagesOf chip ≤ 4) ⌝ }
-    ensures { λ r. ⌜ r ≡ targetOn chip (now (image .entry)) (now (status .entry)) (avoid .0) ⌝ }
+fn target_on(
+    chip: LargeChip,
+    image: &[u8],
+    status: &[u8],
+    avoid: [bool; LargeChip::REGION_PLACES],
+) -> TargetAnswer
+    requires { ⌜ (0 < pagesOf chip) × (pagesOf chip ≤ 4) × (chip .region ≤ 7) ⌝ }
+    ensures { λ r. ⌜ r ≡ targetOn chip (now (image .entry)) (now (status .entry)) avoid ⌝ }
 {
     if image.len() != chip.region_bytes() {
         return TargetAnswer::Refused(Refusal::Length);
@@ -350,22 +398,18 @@ fn target_on(chip: LargeChip, image: &[u8], status: &[u8], avoid: RegionBlock) -
     if !statuses_right(status) {
         return TargetAnswer::Refused(Refusal::Range);
     }
-    if chip.region <= avoid.0 {
-        return TargetAnswer::Refused(Refusal::Range);
-    }
     highest_free(chip, image, status, avoid)
 }
 
-// The target of a recovery beside a good copy: N and the region's size are judged, then lengths, then status bytes and
-// the copy's block.
+// The target beside blocks to avoid: N and the region's size are judged, then lengths, then status bytes.
 pub fn find_target(
     n: u64,
     size: u64,
     image: &[u8],
     status: &[u8],
-    avoid: RegionBlock,
+    avoid: [bool; LargeChip::REGION_PLACES],
 ) -> TargetAnswer
-    ensures { λ r. ⌜ r ≡ lentTarget n size (now (image .entry)) (now (status .entry)) (avoid .0) ⌝ }
+    ensures { λ r. ⌜ r ≡ lentTarget n size (now (image .entry)) (now (status .entry)) avoid ⌝ }
 {
     match LargeChip::new(n, size) {
         ChipAnswer::Refused(r) => TargetAnswer::Refused(r),

@@ -1,15 +1,9 @@
--- `both_copies` meets its contract: the version after this one, and both chip blocks.
+-- `both_copies` meets its contract: the version after this one, and both blocks.
 -- Assumes nothing.
 use mathlib.Core.Path.{refl}
 use borrow.Author.Needs.{needs}
 use Rattle.plan.proofs.both_copies.Statement.{statement}
 use Rattle.plan.proofs.both_copies.Tie as tie
-
-chip-block-requires : tie.Need-chip-block-requires
-chip-block-requires c κs = search needs
-
-chip-block-requires-2 : tie.Need-chip-block-requires-2
-chip-block-requires-2 c κs = search needs
 
 next-version-requires : tie.Need-next-version-requires
 next-version-requires c κs = search needs
@@ -18,14 +12,7 @@ plan-on-requires : tie.Need-plan-on-requires
 plan-on-requires c κs = search needs
 
 returns : tie.Need-returns
-returns c = rw (c .plan-on .ensures, c .before .next-version .ensures, c .before .before .before .chip-block .ensures, c .before .before .chip-block2 .ensures) refl
+returns c = rw (c .plan-on .ensures, c .before .next-version .ensures) refl
 
 pub both-copies-spec : {M : Type 1} → statement M
-both-copies-spec =
-    tie.close
-    (tie.spec
-    chip-block-requires
-    chip-block-requires-2
-    next-version-requires
-    plan-on-requires
-    returns)
+both-copies-spec = tie.close (tie.spec next-version-requires plan-on-requires returns)

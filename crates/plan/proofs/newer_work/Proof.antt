@@ -15,11 +15,11 @@ use Rattle.plan.specs.declared.Work.the-variants.{Copy}
 use Rattle.plan.proofs.newer_work.Statement.{statement}
 use Rattle.plan.proofs.newer_work.Tie as tie
 
-below : (d : ℤ) (p m : RegionBlock) → ltZ d (pos 0) ≡ true → Copy Primary m p ≡ newerWork d p m
+below : (d : ℤ) (p m : RegionBlock) → ltZ d (pos 0) ≡ true → Copy m p Primary ≡ newerWork d p m
 below (pos n) p m h = absurd (omega (arith, ltb-true n 0 h))
 below (negsuc n) p m h = refl
 
-above : (d : ℤ) (p m : RegionBlock) → ltZ d (pos 0) ≡ false → Copy Mirror p m ≡ newerWork d p m
+above : (d : ℤ) (p m : RegionBlock) → ltZ d (pos 0) ≡ false → Copy p m Mirror ≡ newerWork d p m
 above (pos n) p m h = refl
 above (negsuc n) p m h = absurd (true≢false h)
 

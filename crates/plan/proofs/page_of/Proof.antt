@@ -1,15 +1,15 @@
--- `page_of` meets its contract: the told step of the work's plan decides, and a write's page is made from its part of the work's bitmap.
+-- `page_of` meets its contract: the told step of the plan decides, and a write's page is made from its part of the work's bitmap.
 -- Assumes nothing.
 use mathlib.Core.Path.{refl, _∙_, sym}
 use borrow.Author.Needs.{needs}
 use Rattle.plan.proofs.Asking.{by-same}
-use Rattle.plan.proofs.Imaging.{work-refused, work-planned}
+use Rattle.plan.proofs.Imaging.{refused-image, after-planned}
 use Rattle.plan.proofs.Paging.{first-image}
 use Rattle.plan.proofs.page_of.Statement.{statement}
 use Rattle.plan.proofs.page_of.Tie as tie
 
-plan-of-requires : tie.Need-plan-of-requires
-plan-of-requires c κs = search needs
+plan-after-requires : tie.Need-plan-after-requires
+plan-after-requires c κs = search needs
 
 enum-known-r : tie.Need-enum-known-r
 enum-known-r c = search needs
@@ -25,6 +25,9 @@ enum-told c = search needs
 
 enum-told-2 : tie.Need-enum-told-2
 enum-told-2 c = search needs
+
+enum-told-3 : tie.Need-enum-told-3
+enum-told-3 c = search needs
 
 enum-known-p : tie.Need-enum-known-p
 enum-known-p c = search needs
@@ -49,43 +52,49 @@ page-image-requires c κs = search needs
 
 returns : tie.Need-returns
 returns c =
-    let a = c .before .before .before .before .before .before .before .args in
-    let e = work-refused (a .chip) (a .image .now) (a .wanted .now) (a .work) (a .step) _ (sym (c .before .before .before .plan-of .ensures) ∙ c .before .r .given .1) in
-    by-same (a .page .now) (refl, refl) e
+    let a = c .before .before .before .before .before .before .before .before .before .args in
+    by-same (a .page .now) (refl, refl) (refused-image (a .chip) (a .step) _ _ (sym (c .before .before .before .plan-after .ensures) ∙ c .before .r .given .1))
 
 returns-2 : tie.Need-returns-2
 returns-2 c =
-    let a = c .before .before .before .before .before .before .before .before .before .before .args in
-    let e = work-planned (a .chip) (a .image .now) (a .wanted .now) (a .work) (a .step) _ (sym (c .before .before .before .before .before .before .plan-of .ensures) ∙ c .before .before .before .before .plan .given .1) _ (sym (c .enum-told .given .1) ∙ c .before .before .step .ensures) in
+    let a = c .before .before .before .before .before .before .before .before .before .before .before .before .args in
+    let e = after-planned (a .chip) (a .image .now) (a .wanted .now) _ (a .work) (a .failed .now) (a .step) _ (sym (c .before .before .before .before .before .before .plan-after .ensures) ∙ c .before .before .before .before .plan .given .1) _ (sym (c .enum-told .given .1) ∙ c .before .before .step .ensures) in
     by-same (a .page .now) (refl, refl) e
 
 returns-3 : tie.Need-returns-3
 returns-3 c =
-    let a = c .before .before .before .before .before .before .before .before .before .before .args in
-    let e = work-planned (a .chip) (a .image .now) (a .wanted .now) (a .work) (a .step) _ (sym (c .before .before .before .before .before .before .plan-of .ensures) ∙ c .before .before .before .before .plan .given .1) _ (sym (c .enum-told2 .given .1) ∙ c .before .before .step .ensures) in
+    let a = c .before .before .before .before .before .before .before .before .before .before .before .before .args in
+    let e = after-planned (a .chip) (a .image .now) (a .wanted .now) _ (a .work) (a .failed .now) (a .step) _ (sym (c .before .before .before .before .before .before .plan-after .ensures) ∙ c .before .before .before .before .plan .given .1) _ (sym (c .enum-told2 .given .1) ∙ c .before .before .step .ensures) in
+    by-same (a .page .now) (refl, refl) e
+
+returns-4 : tie.Need-returns-4
+returns-4 c =
+    let a = c .before .before .before .before .before .before .before .before .before .before .before .before .args in
+    let e = after-planned (a .chip) (a .image .now) (a .wanted .now) _ (a .work) (a .failed .now) (a .step) _ (sym (c .before .before .before .before .before .before .plan-after .ensures) ∙ c .before .before .before .before .plan .given .1) _ (sym (c .enum-told3 .given .1) ∙ c .before .before .step .ensures) in
     by-same (a .page .now) (refl, refl) e
 
 same-length : tie.Need-same-length
 same-length c = search needs
 
-returns-4 : tie.Need-returns-4
-returns-4 c =
-    let a = c .before .before .before .before .before .before .before .before .before .before .before .before .before .before .before .before .before .before .before .before .args in
-    let e = work-planned (a .chip) (a .image .now) (a .wanted .now) (a .work) (a .step) _ (sym (c .before .before .before .before .before .before .before .before .before .before .before .before .before .before .before .before .plan-of .ensures) ∙ c .before .before .before .before .before .before .before .before .before .before .before .before .before .before .plan .given .1) _ (sym (c .before .before .before .before .before .before .before .before .before .before .p .given .1) ∙ c .before .before .before .before .before .before .before .before .before .before .before .before .step .ensures) in
+returns-5 : tie.Need-returns-5
+returns-5 c =
+    let a = c .before .before .before .before .before .before .before .before .before .before .before .before .before .before .before .before .before .before .before .before .before .before .args in
+    let e = after-planned (a .chip) (a .image .now) (a .wanted .now) _ (a .work) (a .failed .now) (a .step) _ (sym (c .before .before .before .before .before .before .before .before .before .before .before .before .before .before .before .before .plan-after .ensures) ∙ c .before .before .before .before .before .before .before .before .before .before .before .before .before .before .plan .given .1) _ (sym (c .before .before .before .before .before .before .before .before .before .before .p .given .1) ∙ c .before .before .before .before .before .before .before .before .before .before .before .before .step .ensures) in
     let made = c .before .before .before .before .before .before .before .new-part .ensures in
-    let put = first-image _ _ _ _ _ (a .page .now) (c .before .before .before .before .before .before .before .before .before .before .before .before .before .before .before .before .before .before .before .before .pre .1) (made .0) (made .1) in
+    let put = first-image _ _ _ _ _ (a .page .now) (c .before .before .before .before .before .before .before .before .before .before .before .before .before .before .before .before .before .before .before .before .before .before .pre .2) (made .0) (made .1) in
     by-same (a .page .now) (refl, c .before .before .page-image .ensures ∙ put) e
 
 pub page-of-spec : {M : Type 1} → statement M
 page-of-spec =
     tie.close
     (tie.spec
-    plan-of-requires
+    plan-after-requires
     enum-known-r
     enum-known-plan
     step-requires
     enum-told
     enum-told-2
+    enum-told-3
     enum-known-p
     slice-aggregate-new-part
     new-part-requires
@@ -96,5 +105,6 @@ page-of-spec =
     returns
     returns-2
     returns-3
+    returns-4
     same-length
-    returns-4)
+    returns-5)

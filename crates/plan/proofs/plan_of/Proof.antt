@@ -3,7 +3,7 @@
 use mathlib.Core.Path.{refl, subst}
 use borrow.Author.Needs.{needs}
 use lib.ListN.{length}
-use Rattle.bbt.specs.Plans.{planVersion, anded}
+use Rattle.bbt.specs.Plans.{jobVersion, anded}
 use Rattle.plan.specs.Works.{workAnswer, Sourced}
 use Rattle.plan.specs.declared.Work.{Work}
 use Rattle.plan.proofs.plan_of.Statement.{statement}
@@ -33,9 +33,6 @@ settled-update-requires c κs =
 enum-known-work-4 : tie.Need-enum-known-work-4
 enum-known-work-4 c = search needs
 
-chip-block-requires : tie.Need-chip-block-requires
-chip-block-requires c κs = search needs
-
 version-requires-2 : tie.Need-version-requires-2
 version-requires-2 c κs = search needs
 
@@ -56,7 +53,7 @@ unfolding workAnswer
 returns c = rw (c .before .work .given .1) refl
 
 returns-2 : tie.Need-returns-2
-unfolding workAnswer planVersion
+unfolding workAnswer jobVersion
 returns-2 c = rw (c .before .before .before .work2 .given .1) (rw (c .plan-on .ensures, c .before .version .ensures) refl)
 
 returns-3 : tie.Need-returns-3
@@ -64,11 +61,11 @@ unfolding workAnswer
 returns-3 c = rw (c .before .before .work3 .given .1) (c .settled-update .ensures)
 
 returns-4 : tie.Need-returns-4
-unfolding workAnswer planVersion
-returns-4 c = rw (c .before .before .before .before .work4 .given .1) (rw (c .plan-on2 .ensures, c .before .version2 .ensures, c .before .before .chip-block .ensures) refl)
+unfolding workAnswer jobVersion
+returns-4 c = rw (c .before .before .before .work4 .given .1) (rw (c .plan-on2 .ensures, c .before .version2 .ensures) refl)
 
 returns-5 : tie.Need-returns-5
-unfolding workAnswer planVersion anded
+unfolding workAnswer jobVersion anded
 returns-5 c = rw (c .before .before .before .work5 .given .1) (rw (c .both-copies .ensures, c .before .version3 .ensures) refl)
 
 pub plan-of-spec : {M : Type 1} → statement M
@@ -82,7 +79,6 @@ plan-of-spec =
     enum-known-work-3
     settled-update-requires
     enum-known-work-4
-    chip-block-requires
     version-requires-2
     plan-on-requires-2
     enum-known-work-5

@@ -30,23 +30,23 @@ part-page-of-end c = search needs
 
 page-of-requires : tie.Need-page-of-requires
 page-of-requires c κs =
-    let a = c .before .before .before .before .before .before .before .before .before .before .args in
+    let a = c .before .before .before .before .before .before .before .before .before .before .before .args in
     let is = sym (c .before .before .before .before .before .before .page-case .ensures) ∙ c .before .before .before .before .chip .given .1 in
-    page-sourced for-recovery (a .n) (a .size) (a .image .now) (a .status .now) (a .step) (a .page .now) _ _ is _ (c .before .before .recovery-work .ensures)
+    page-sourced for-recovery (a .n) (a .size) (a .image .now) (a .status .now) (a .failed .now) (a .step) (a .page .now) _ _ is _ (c .before .before .recovery-work .ensures)
 
 returns : tie.Need-returns
 returns c =
-    let a = c .before .before .before .before .before .before .before .args in
-    page-out for-recovery (a .n) (a .size) (a .image .now) (a .status .now) (a .step) (a .page .now) _ (sym (c .before .before .before .page-case .ensures) ∙ c .before .r .given .1)
+    let a = c .before .before .before .before .before .before .before .before .args in
+    page-out for-recovery (a .n) (a .size) (a .image .now) (a .status .now) (a .failed .now) (a .step) (a .page .now) _ (sym (c .before .before .before .page-case .ensures) ∙ c .before .r .given .1)
 
 same-length : tie.Need-same-length
 same-length c = search needs
 
 returns-2 : tie.Need-returns-2
 returns-2 c =
-    let a = c .before .before .before .before .before .before .before .before .before .before .before .before .before .args in
+    let a = c .before .before .before .before .before .before .before .before .before .before .before .before .before .before .args in
     let is = sym (c .before .before .before .before .before .before .before .before .before .page-case .ensures) ∙ c .before .before .before .before .before .before .before .chip .given .1 in
-    page-work for-recovery (a .n) (a .size) (a .image .now) (a .status .now) (a .step) (a .page .now) _ _ is _ (c .before .before .before .before .before .recovery-work .ensures) (c .before .before .page-of .ensures)
+    page-work for-recovery (a .n) (a .size) (a .image .now) (a .status .now) (a .failed .now) (a .step) (a .page .now) _ _ is _ (c .before .before .before .before .before .recovery-work .ensures) (c .before .before .page-of .ensures)
 
 pub recovery-page-spec : {M : Type 1} → statement M
 recovery-page-spec =

@@ -6,6 +6,7 @@ use lib.IntN.{ℤ}
 use mir.Facts.{toZ-ofZ}
 use mir.Syntax.{w32}
 use Rattle.plan.specs.Works.{missingWork, newerWork}
+use Rattle.region.specs.Targets.{lentTarget}
 use Rattle.plan.proofs.recovery_work.Statement.{statement}
 use Rattle.plan.proofs.recovery_work.Tie as tie
 
@@ -14,6 +15,9 @@ enum-known-c c = search needs
 
 enum-known-c-2 : tie.Need-enum-known-c-2
 enum-known-c-2 c = search needs
+
+avoiding-requires : tie.Need-avoiding-requires
+avoiding-requires c κs = search needs
 
 find-target-requires : tie.Need-find-target-requires
 find-target-requires c κs = search needs
@@ -37,7 +41,11 @@ returns : tie.Need-returns
 returns c = rw (c .before .c .given .1) refl
 
 returns-2 : tie.Need-returns-2
-returns-2 c = rw (c .before .before .before .c2 .given .1) (c .missing-work .ensures ∙ ap (missingWork _ _) (c .before .find-target .ensures))
+returns-2 c =
+    let a = c .before .before .before .before .before .before .before .before .args in
+    rw (c .before .before .before .before .c2 .given .1)
+    (c .missing-work .ensures
+    ∙ ap (missingWork _ _) (c .before .find-target .ensures ∙ ap (lentTarget (a .n) (a .size) (a .image .now) (a .status .now)) (c .before .before .avoiding .ensures)))
 
 returns-3 : tie.Need-returns-3
 returns-3 c = rw (c .before .c3 .given .1) refl
@@ -57,6 +65,7 @@ recovery-work-spec =
     (tie.spec
     enum-known-c
     enum-known-c-2
+    avoiding-requires
     find-target-requires
     missing-work-requires
     enum-known-c-3

@@ -21,23 +21,23 @@ update-work-requires c κs = search needs
 
 page-of-requires : tie.Need-page-of-requires
 page-of-requires c κs =
-    let a = c .before .before .before .before .before .before .before .before .before .before .args in
+    let a = c .before .before .before .before .before .before .before .before .before .before .before .args in
     let is = sym (c .before .before .before .before .before .page-case .ensures) ∙ c .before .before .before .chip .given .1 in
-    page-sourced (for-update (a .wanted .now)) (a .n) (a .size) (a .image .now) (a .status .now) (a .step) (a .page .now) _ _ is _ (c .before .update-work .ensures)
+    page-sourced (for-update (a .wanted .now)) (a .n) (a .size) (a .image .now) (a .status .now) (a .failed .now) (a .step) (a .page .now) _ _ is _ (c .before .update-work .ensures)
 
 returns : tie.Need-returns
 returns c =
-    let a = c .before .before .before .before .before .before .before .before .args in
-    page-out (for-update (a .wanted .now)) (a .n) (a .size) (a .image .now) (a .status .now) (a .step) (a .page .now) _ (sym (c .before .before .before .page-case .ensures) ∙ c .before .r .given .1)
+    let a = c .before .before .before .before .before .before .before .before .before .args in
+    page-out (for-update (a .wanted .now)) (a .n) (a .size) (a .image .now) (a .status .now) (a .failed .now) (a .step) (a .page .now) _ (sym (c .before .before .before .page-case .ensures) ∙ c .before .r .given .1)
 
 same-length : tie.Need-same-length
 same-length c = search needs
 
 returns-2 : tie.Need-returns-2
 returns-2 c =
-    let a = c .before .before .before .before .before .before .before .before .before .before .before .before .before .args in
+    let a = c .before .before .before .before .before .before .before .before .before .before .before .before .before .before .args in
     let is = sym (c .before .before .before .before .before .before .before .before .page-case .ensures) ∙ c .before .before .before .before .before .before .chip .given .1 in
-    page-work (for-update (a .wanted .now)) (a .n) (a .size) (a .image .now) (a .status .now) (a .step) (a .page .now) _ _ is _ (c .before .before .before .before .update-work .ensures) (c .before .before .page-of .ensures)
+    page-work (for-update (a .wanted .now)) (a .n) (a .size) (a .image .now) (a .status .now) (a .failed .now) (a .step) (a .page .now) _ _ is _ (c .before .before .before .before .update-work .ensures) (c .before .before .page-of .ensures)
 
 pub update-page-spec : {M : Type 1} → statement M
 update-page-spec =

@@ -4,7 +4,7 @@ use mathlib.Core.Path.{subst, ap, _∙_}
 use Prim.Native.Nat.{ℕ, _+_, _*_, _≤_}
 use native.Mathlib.Nat.{add-zero}
 use native.Mathlib.Omega.{arith}
-use Rattle.plan.specs.declared.PlanAnswer.{PlanAnswer}
+use Rattle.bbt.specs.declared.PlanAnswer.{PlanAnswer}
 use Rattle.reamsickle.specs.LargeBoundary.{roomOf}
 use borrow.Author.Needs.{needs}
 use Rattle.reamsickle.proofs.tell_answer.Statement.{statement}

@@ -1,6 +1,7 @@
--- `find_target` meets its contract: N and the region's size are judged, and a judged chip has 1 to 4 pages.
+-- `find_target` meets its contract: N and the region's size are judged, and a judged chip has 1 to 4 pages and at most 7 region blocks.
 -- Assumes nothing.
 use mathlib.Core.Path.{_∙_, sym}
+use native.Mathlib.Omega.{arith}
 use Rattle.bbt.proofs.Raw.{chip-valid}
 use Rattle.region.specs.Targets.{lentTarget}
 use borrow.Author.Needs.{needs}
@@ -17,7 +18,9 @@ enum-known-chip : tie.Need-enum-known-chip
 enum-known-chip c = search needs
 
 target-on-requires : tie.Need-target-on-requires
-target-on-requires c κs = let valid = chip-valid _ _ _ (sym (c .before .before .before .new .ensures) ∙ c .before .chip .given .1) in (valid .some-page, valid .few-pages)
+target-on-requires c κs =
+    let valid = chip-valid _ _ _ (sym (c .before .before .before .new .ensures) ∙ c .before .chip .given .1) in
+    (valid .some-page, valid .few-pages, omega arith)
 
 returns : tie.Need-returns
 unfolding lentTarget

@@ -6,7 +6,7 @@ use Prim.Native.Nat.{ℕ, _*_, _≤_, _-_}
 use native.Mathlib.Omega.{arith}
 use borrow.Author.Needs.{needs}
 use borrow.Author.Tests.{not-true, not-false}
-use Rattle.bbt.specs.Copies.{all}
+use Rattle.bbt.specs.Pages.{all}
 use Rattle.bbt.proofs.Searches.{all-next, all-not}
 use Rattle.chip.specs.Large.{pagesOf}
 use Rattle.region.proofs.Bytes.{page-inside, first-inside, matches, good-by}

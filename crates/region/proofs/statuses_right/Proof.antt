@@ -7,7 +7,7 @@ use native.Mathlib.Omega.{arith}
 use borrow.Author.Tests.{lt-ltb, le-ltb}
 use lib.Dec.{ltb}
 use lib.ListN.{length, getD}
-use Rattle.bbt.specs.Copies.{all}
+use Rattle.bbt.specs.Pages.{all}
 use Rattle.bbt.specs.Lent.{statusesRight}
 use Rattle.bbt.proofs.Searches.{all-next, all-not}
 use Rattle.region.proofs.statuses_right.Statement.{statement}

@@ -1,7 +1,7 @@
 -- `target_on` meets its contract: its tests are those of `targetOn`.
 -- Assumes nothing.
 use mathlib.Core.Path.{_∙_, sym}
-use borrow.Author.Tests.{eq-eqb, ne-eqb, le-ltb, lt-ltb, not-true, not-false}
+use borrow.Author.Tests.{eq-eqb, ne-eqb, not-true, not-false}
 use Rattle.bbt.specs.Lent.{regionLent}
 use Rattle.region.specs.Targets.{targetOn}
 use borrow.Author.Needs.{needs}
@@ -34,23 +34,15 @@ returns-3 c =
     let status = eq-eqb _ _ (c .before .before .if2 .left ∙ c .before .before .before .region-pages .ensures) in
     simp (image, status, sym (c .before .statuses-right .ensures) ∙ not-true _ (c .if3 .taken))
 
-returns-4 : tie.Need-returns-4
-unfolding targetOn regionLent
-returns-4 c =
-    let image = eq-eqb _ _ (c .before .before .before .before .before .before .before .if1 .left ∙ c .before .before .before .before .before .before .before .before .region-bytes .ensures) in
-    let status = eq-eqb _ _ (c .before .before .before .before .before .if2 .left ∙ c .before .before .before .before .before .before .region-pages .ensures) in
-    simp (image, status, sym (c .before .before .before .before .statuses-right .ensures) ∙ not-false _ (c .before .before .before .if3 .left), le-ltb _ _ (c .if4 .taken))
-
 highest-free-requires : tie.Need-highest-free-requires
 highest-free-requires c κs = search needs
 
-returns-5 : tie.Need-returns-5
+returns-4 : tie.Need-returns-4
 unfolding targetOn regionLent
-returns-5 c =
-    let image = eq-eqb _ _ (c .before .before .before .before .before .before .before .before .if1 .left ∙ c .before .before .before .before .before .before .before .before .before .region-bytes .ensures) in
-    let status = eq-eqb _ _ (c .before .before .before .before .before .before .if2 .left ∙ c .before .before .before .before .before .before .before .region-pages .ensures) in
-    simp (image, status, sym (c .before .before .before .before .before .statuses-right .ensures) ∙ not-false _ (c .before .before .before .before .if3 .left), lt-ltb _ _ (c .before .if4 .left))
-    (c .highest-free .ensures)
+returns-4 c =
+    let image = eq-eqb _ _ (c .before .before .before .before .before .if1 .left ∙ c .before .before .before .before .before .before .region-bytes .ensures) in
+    let status = eq-eqb _ _ (c .before .before .before .if2 .left ∙ c .before .before .before .before .region-pages .ensures) in
+    simp (image, status, sym (c .before .before .statuses-right .ensures) ∙ not-false _ (c .before .if3 .left)) (c .highest-free .ensures)
 
 pub target-on-spec : {M : Type 1} → statement M
 target-on-spec =
@@ -62,6 +54,5 @@ target-on-spec =
     returns-2
     statuses-right-requires
     returns-3
-    returns-4
     highest-free-requires
-    returns-5)
+    returns-4)

@@ -1,100 +1,50 @@
--- `Plan::step` meets its contract: it tells the copies apart as `stepBy` does.
+-- `Plan::step` meets its contract: zeros come first where a block is retired, and shift the others.
 -- Assumes nothing.
-use mathlib.Core.Path.{_∙_, ap, sym}
-use borrow.Author.Tests.{lt-ltb, le-ltb, le-leb, lt-leb}
-use Rattle.bbt.specs.declared.Shape.{Shape}
-use Rattle.bbt.proofs.ToldSteps.{stepBy, step-by}
+use mathlib.Core.Path.{_∙_, sym}
+use mathlib.Core.Logic.{⊎-elim}
+use native.Mathlib.Omega.{arith}
+use Rattle.bbt.specs.Told.{stepsBy, retiredFirst, nthStep}
+use Rattle.bbt.proofs.ToldSteps.{zeros-after}
 use borrow.Author.Needs.{needs}
 use Rattle.bbt.proofs.Plan.step.Statement.{statement}
 use Rattle.bbt.proofs.Plan.step.Tie as tie
 
-cast-p : tie.Need-cast-p
-cast-p c = search needs
-
 enum-told : tie.Need-enum-told
 enum-told c = search needs
 
-enum-known-shape : tie.Need-enum-known-shape
-enum-known-shape c = search needs
+enum-known-retired : tie.Need-enum-known-retired
+enum-known-retired c = search needs
+
+chip-block-requires : tie.Need-chip-block-requires
+chip-block-requires c κs = search needs
 
 returns : tie.Need-returns
-returns c =
-    let a = c .before .before .before .before .before .args in
-    let is = step-by (a .self .pages) (a .self .shape) (a .k) ∙ ap (λ (s : Shape). stepBy (a .self .pages) s (a .k)) (c .before .before .shape .given .1) in
-    sym (is ∙ simp (lt-ltb _ _ (c .if1 .taken)))
+unfolding retiredFirst nthStep
+returns c = rw (c .before .before .before .retired .given .1, c .before .if1 .taken, c .chip-block .ensures)
 
-copy-step-requires : tie.Need-copy-step-requires
-copy-step-requires c κs = search needs
+sub-after : tie.Need-sub-after
+sub-after c = search needs
 
-enum-known-shape-2 : tie.Need-enum-known-shape-2
-enum-known-shape-2 c = search needs
-
-copy-step-requires-2 : tie.Need-copy-step-requires-2
-copy-step-requires-2 c κs = search needs
+shape-step-requires : tie.Need-shape-step-requires
+shape-step-requires c κs = search needs
 
 returns-2 : tie.Need-returns-2
+unfolding retiredFirst nthStep
 returns-2 c =
-    let a = c .before .before .before .before .before .before .args in
-    let is = step-by (a .self .pages) (a .self .shape) (a .k) ∙ ap (λ (s : Shape). stepBy (a .self .pages) s (a .k)) (c .before .before .before .shape2 .given .1) in
-    c .copy-step2 .ensures ∙ sym (is ∙ simp (le-leb _ _ (c .before .if2 .taken)))
-
-mul-if3 : tie.Need-mul-if3
-mul-if3 c = search needs
-
-add-if3 : tie.Need-add-if3
-add-if3 c = search needs
-
-returns-3 : tie.Need-returns-3
-returns-3 c =
-    let a = c .before .before .before .before .before .before .args in
-    let is = step-by (a .self .pages) (a .self .shape) (a .k) ∙ ap (λ (s : Shape). stepBy (a .self .pages) s (a .k)) (c .before .before .before .shape2 .given .1) in
-    sym (is ∙ simp (lt-leb _ _ (c .before .if2 .left), lt-ltb _ _ (c .if3 .taken)))
-
-sub-copy-step : tie.Need-sub-copy-step
-sub-copy-step c = search needs
-
-sub-copy-step-2 : tie.Need-sub-copy-step-2
-sub-copy-step-2 c = search needs
-
-copy-step-requires-3 : tie.Need-copy-step-requires-3
-copy-step-requires-3 c κs = search needs
-
-returns-4 : tie.Need-returns-4
-returns-4 c =
     let a = c .before .before .before .args in
-    let is = step-by (a .self .pages) (a .self .shape) (a .k) ∙ ap (λ (s : Shape). stepBy (a .self .pages) s (a .k)) (c .enum-told .given .1) in
-    sym (is)
-
-returns-5 : tie.Need-returns-5
-returns-5 c =
-    let a = c .before .before .before .before .before .before .args in
-    let is = step-by (a .self .pages) (a .self .shape) (a .k) ∙ ap (λ (s : Shape). stepBy (a .self .pages) s (a .k)) (c .before .before .before .shape .given .1) in
-    c .copy-step .ensures ∙ sym (is ∙ simp (le-ltb _ _ (c .before .if1 .left)))
-
-returns-6 : tie.Need-returns-6
-returns-6 c =
-    let a = c .before .before .before .before .before .before .before .args in
-    let is = step-by (a .self .pages) (a .self .shape) (a .k) ∙ ap (λ (s : Shape). stepBy (a .self .pages) s (a .k)) (c .before .before .before .before .shape2 .given .1) in
-    c .copy-step3 .ensures ∙ sym (is ∙ simp (lt-leb _ _ (c .before .before .if2 .left), le-ltb _ _ (c .before .if3 .left)))
+    ⊎-elim
+    (λ w. c .shape-step .ensures ∙ rw (w .2, w .1 .given .1))
+    (λ w. c .shape-step .ensures ∙ rw (w .4) (sym (zeros-after (a .self .chip) _ _ (w .1 .given .1) (stepsBy (a .self .chip) (a .self .shape)) (a .k) (omega (arith, w .3 .left)))))
+    (c .before .match .came)
 
 pub step-spec : {M : Type 1} → statement M
 step-spec =
     tie.close
     (tie.spec
-    cast-p
     enum-told
-    enum-known-shape
+    enum-known-retired
+    chip-block-requires
     returns
-    copy-step-requires
-    enum-known-shape-2
-    copy-step-requires-2
-    returns-2
-    mul-if3
-    add-if3
-    returns-3
-    sub-copy-step
-    sub-copy-step-2
-    copy-step-requires-3
-    returns-4
-    returns-5
-    returns-6)
+    sub-after
+    shape-step-requires
+    returns-2)

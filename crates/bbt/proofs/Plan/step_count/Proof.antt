@@ -1,52 +1,25 @@
--- `Plan::step_count` meets its contract: a copy has P + 1 steps.
+-- `Plan::step_count` meets its contract: the zero step, if there is one, and the steps of what is written.
 -- Assumes nothing.
-use mathlib.Core.Path.{_∙_, ap, sym}
-use Rattle.bbt.proofs.ToldSteps.{countBy, count-by}
+use native.Mathlib.Omega.{arith}
+use Rattle.bbt.specs.Told.{stepsBy}
+use Rattle.bbt.proofs.ToldSteps.{zeros-count}
 use borrow.Author.Needs.{needs}
 use Rattle.bbt.proofs.Plan.step_count.Statement.{statement}
 use Rattle.bbt.proofs.Plan.step_count.Tie as tie
 
-cast-p : tie.Need-cast-p
-cast-p c = search needs
+zero-count-requires : tie.Need-zero-count-requires
+zero-count-requires c κs = search needs
 
-enum-told : tie.Need-enum-told
-enum-told c = search needs
-
-enum-told-2 : tie.Need-enum-told-2
-enum-told-2 c = search needs
+shape-count-requires : tie.Need-shape-count-requires
+shape-count-requires c κs = search needs
 
 add-result : tie.Need-add-result
 add-result c = search needs
 
-enum-told-3 : tie.Need-enum-told-3
-enum-told-3 c = search needs
-
-mul-result : tie.Need-mul-result
-mul-result c = search needs
-
-add-result-2 : tie.Need-add-result-2
-add-result-2 c = search needs
-
 returns : tie.Need-returns
-returns c = let a = c .before .before .before .args .self in sym (count-by (a .pages) (a .shape) ∙ ap (countBy (a .pages)) (c .enum-told .given .1))
-
-returns-2 : tie.Need-returns-2
-returns-2 c = let a = c .before .before .before .args .self in sym (count-by (a .pages) (a .shape) ∙ ap (countBy (a .pages)) (c .enum-told2 .given .1))
-
-returns-3 : tie.Need-returns-3
-returns-3 c = let a = c .before .before .before .args .self in sym (count-by (a .pages) (a .shape) ∙ ap (countBy (a .pages)) (c .enum-told3 .given .1))
+returns c =
+    let a = c .before .before .before .args .self in
+    omega (arith, zeros-count (a .chip) (a .retired) (stepsBy (a .chip) (a .shape)), c .before .zero-count .ensures, c .shape-count .ensures)
 
 pub step-count-spec : {M : Type 1} → statement M
-step-count-spec =
-    tie.close
-    (tie.spec
-    cast-p
-    enum-told
-    enum-told-2
-    add-result
-    enum-told-3
-    mul-result
-    add-result-2
-    returns
-    returns-2
-    returns-3)
+step-count-spec = tie.close (tie.spec zero-count-requires shape-count-requires add-result returns)
