@@ -12,6 +12,8 @@
  * whole run of the fixed number or more, no kind was missing. If a rule is broken it prints the history's seed,
  * its events and the rule.
  */
+#define _POSIX_C_SOURCE 200809L
+
 #include <errno.h>
 #include <inttypes.h>
 #include <signal.h>
@@ -41,6 +43,16 @@ static void interrupt(int number)
 {
 	(void)number;
 	interrupted = 1;
+}
+
+/* An interrupt may come twice: timeout(1) sends it to the program, then to the program's group. */
+static void take_interrupts(void)
+{
+	struct sigaction action = { .sa_handler = interrupt, .sa_flags = SA_RESTART };
+
+	sigemptyset(&action.sa_mask);
+	sigaction(SIGINT, &action, NULL);
+	sigaction(SIGTERM, &action, NULL);
 }
 
 static void print_start(const struct run *run)
@@ -117,8 +129,7 @@ int main(int argc, char **argv)
 	};
 	int status = EXIT_FAILURE;
 
-	signal(SIGINT, interrupt);
-	signal(SIGTERM, interrupt);
+	take_interrupts();
 	if (argc > 3 || (argc > 1 && !parse(argv[1], &run.seed)) || (argc > 2 && !parse(argv[2], &run.histories)))
 		printf("usage: histories [seed [histories]]\n");
 	else if (!run.history || !run.tally)

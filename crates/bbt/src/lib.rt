@@ -128,7 +128,7 @@ fn copy_step(kind: Kind, block: ChipBlock, k: u64) -> Step
 }
 
 // How many steps write what a plan writes: 0, P + 1 or 2P + 2.
-fn shape_count(chip: LargeChip, shape: Shape) -> u32
+pub fn shape_count(chip: LargeChip, shape: Shape) -> u32
     ensures { λ r. ⌜ (r ≡ length (stepsBy chip shape)) × (r ≤ 20) ⌝ }
 {
     let p = chip.pages() as u32;
@@ -140,7 +140,7 @@ fn shape_count(chip: LargeChip, shape: Shape) -> u32
 }
 
 // Step k of these, counted from 0.
-fn shape_step(chip: LargeChip, shape: Shape, k: u64) -> Step
+pub fn shape_step(chip: LargeChip, shape: Shape, k: u64) -> Step
     ensures { λ r. ⌜ r ≡ nthStep (stepsBy chip shape) k ⌝ }
 {
     let p = chip.pages() as u64;

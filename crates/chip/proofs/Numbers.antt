@@ -1,12 +1,15 @@
--- What the tests of a large chip's numbers tell where they pass: N, and the region's size.
+-- What the tests of a large chip's numbers tell where they pass: N, and the region's size. Both fit their fields.
 -- Assumes nothing.
 use mathlib.Core.Bool.{true, _&&_}
-use mathlib.Core.Path.{_≡_}
+use mathlib.Core.Path.{_≡_, refl}
 use Prim.Native.Nat.{ℕ, _*_, _%_, _≤_}
+use native.Mathlib.Omega.{arith}
 use borrow.Author.Tests.{eqb-true, leb-true}
 use lib.Dec.{eqb, leb}
 use Rattle.bits.proofs.Both.{both-left, both-right}
-use Rattle.chip.specs.Large.{isBlocks, isRegion}
+use Rattle.chip.specs.Large.{isBlocks, isRegion, isChip, chipOf}
+use Rattle.chip.specs.declared.ChipAnswer.the-variants.{Chip}
+use Rattle.chip.specs.declared.LargeChip.{LargeChip}
 
 pub record Blocks (n : ℕ) : Type 0 where
   pub fours : n % 4 ≡ 0
@@ -37,3 +40,13 @@ region-told n size e =
       largest = leb-true size 7 (both-right (leb 4 size) (leb size 7) range);
       half = leb-true (2 * size) n (both-right (leb 4 size && leb size 7) (leb (2 * size) n) e);
     }
+
+-- numbers that pass are their own low bits
+pub made-chip : (n size : ℕ) (chip : LargeChip) → isChip n size ≡ true → chip ≡ record { blocks = n % 65536; region = size % 256 } → chipOf n size ≡ Chip chip
+unfolding chipOf
+made-chip n size chip e made =
+    let blocks : Blocks n = blocks-told n (both-left (isBlocks n) (isRegion n size) e) in
+    let sized : Sized n size = region-told n size (both-right (isBlocks n) (isRegion n size) e) in
+    let same-n : n % 65536 ≡ n = omega arith in
+    let same-size : size % 256 ≡ size = omega arith in
+    rw (e, made, same-n, same-size) refl

@@ -15,9 +15,13 @@ isBlocks n = eqb (n % 4) 0 && leb 8 n && leb n 32768
 unfoldable pub isRegion : ℕ → ℕ → Bool
 isRegion n size = leb 4 size && leb size 7 && leb (2 * size) n
 
+-- both of a chip's numbers are right
+abbrev pub isChip : ℕ → ℕ → Bool
+isChip n size = isBlocks n && isRegion n size
+
 -- the chip of N blocks, whose region is the last `size` of them, or refusal 2
 unfoldable pub chipOf : ℕ → ℕ → ChipAnswer
-chipOf n size = cond (isBlocks n && isRegion n size) (Chip (record { blocks = n; region = size })) (Refused Range)
+chipOf n size = cond (isChip n size) (Chip (record { blocks = n; region = size })) (Refused Range)
 
 -- the bitmap has N/4 bytes
 abbrev pub bitmapBytes : LargeChip → ℕ

@@ -1,7 +1,8 @@
 // The two kinds of chip with their sizes, the numbers that must not be mixed, and the refusals.
 ghost use mathlib.Core.Path.{_≡_};
+ghost use Prim.Native.Nat.{_%_};
 ghost use Rattle.chip.specs.Boot.{pathOf, bootOf};
-ghost use Rattle.chip.specs.Large.{isBlocks, isRegion, chipOf, bitmapBytes, pagesOf, regionPages, regionBytes};
+ghost use Rattle.chip.specs.Large.{isBlocks, isRegion, isChip, chipOf, bitmapBytes, pagesOf, regionPages, regionBytes};
 ghost use Rattle.chip.specs.Refusals.{refusalNumber, refusalDetail};
 
 // The small chip: 512 data bytes and 16 spare bytes a page, in two halves with a code of three bytes each.
@@ -79,17 +80,32 @@ impl LargeChip {
 
     pub const MOST_BLOCKS: u64 = 32768;
 
-    // The chip of n blocks, of which the last `size` are the region.
+    // Is there a chip of n blocks, of which the last `size` are the region?
+    pub fn exists(n: u64, size: u64) -> bool
+        ensures { λ r. ⌜ r ≡ isChip n size ⌝ }
+    {
+        if is_blocks(n) {
+            return is_region(n, size);
+        }
+        false
+    }
+
+    // That chip, where there is one; else a chip of these numbers' low bits.
+    pub fn of(n: u64, size: u64) -> LargeChip
+        ensures { λ r. ⌜ r ≡ record { blocks = n % 65536; region = size % 256 } ⌝ }
+    {
+        LargeChip {
+            blocks: (n % 65536) as u16,
+            region: (size % 256) as u8,
+        }
+    }
+
+    // The chip of n blocks, of which the last `size` are the region, or the refusal of these numbers.
     pub fn new(n: u64, size: u64) -> ChipAnswer
         ensures { λ r. ⌜ r ≡ chipOf n size ⌝ }
     {
-        if is_blocks(n) {
-            if is_region(n, size) {
-                return ChipAnswer::Chip(LargeChip {
-                    blocks: n as u16,
-                    region: size as u8,
-                });
-            }
+        if LargeChip::exists(n, size) {
+            return ChipAnswer::Chip(LargeChip::of(n, size));
         }
         ChipAnswer::Refused(Refusal::Range)
     }

@@ -4,12 +4,12 @@ use mathlib.Core.Bool.{Bool, true, false, cond}
 use mathlib.Core.List.{List, [], _∷_, map}
 use mathlib.Core.Path.{_≡_, refl, _∙_, ap, ap₂, sym, subst}
 use Prim.Native.Nat.{ℕ, zero, suc}
-use native.Mathlib.Omega.{arith}
+use lib.ListN.{length}
 use Rattle.bbt.proofs.ToldSteps.{tells-steps}
 use Rattle.bbt.specs.Copies.{Table}
 use Rattle.bbt.specs.Entries.{updatedBytes}
 use Rattle.bbt.specs.Failures.{failures}
-use Rattle.bbt.specs.Images.{chunk, partImage, pageImage, Imaged, no-image, page-image, imageAt, planImage}
+use Rattle.bbt.specs.Images.{pageImage, no-image, imageAt, planImage}
 use Rattle.bbt.specs.Pages.{View}
 use Rattle.bbt.specs.Pairs.{same}
 use Rattle.bbt.specs.Plans.{Step, erase, write, writes, copySteps, Job, idle, single, double, jobSteps, jobVersion, Plan, zeroFirst, planVersion, nextVersion, Answer, refuse, plan, updateFrom, updated, anded, holds}
@@ -17,25 +17,18 @@ use Rattle.bbt.specs.Told.{toldStep, toldPlan, toldAnswer, toldSteps, nthStep}
 use Rattle.bbt.specs.declared.Kind.{Kind}
 use Rattle.bbt.specs.declared.Kind.the-variants.{Primary, Mirror}
 use Rattle.bbt.specs.declared.Plan.{Plan as ToldPlan}
+use Rattle.bbt.specs.declared.PlanAnswer.{PlanAnswer}
 use Rattle.bbt.specs.declared.PlanAnswer.the-variants.{Planned, Refused}
 use Rattle.bbt.specs.declared.Step.{Step as ToldStep}
-use Rattle.bbt.specs.declared.Step.the-variants.{Erase, Write, Zero, Past}
 use Rattle.chip.specs.Large.{pagesOf}
 use Rattle.chip.specs.declared.LargeChip.{LargeChip}
 use Rattle.chip.specs.declared.Refusal.{Refusal}
-use Rattle.chip.specs.declared.Refusal.the-variants.{Range}
-use Rattle.plan.proofs.Keeping.{Planning, Writes, table-kept}
+use Rattle.plan.proofs.Keeping.{failures-none, Planning, Writes, table-kept}
+use Rattle.plan.specs.PageImages.{stepImage, toldImage}
 use Rattle.plan.specs.Works.{workAnswer, workBitmap}
 use Rattle.plan.specs.declared.Work.{Work}
 use Rattle.plan.specs.declared.Work.the-variants.{Refused as NoWork, Keep, Update, Copy, Merge}
 use Rattle.region.specs.Stored.{storedTable}
-
--- the image of a told step, where pages of this version and bitmap are written
-abbrev pub stepImage : ℕ → List ℕ → ToldStep → Imaged
-stepImage v bitmap (Erase b) = no-image Range
-stepImage v bitmap (Write b p k) = page-image (partImage k v (chunk p bitmap))
-stepImage v bitmap (Zero b) = no-image Range
-stepImage v bitmap Past = no-image Range
 
 -- ---- steps, each with the image that its told step gives
 abbrev Tells : LargeChip → ℕ → List ℕ → List Step → Type 0
@@ -95,17 +88,18 @@ module _ (chip : LargeChip) (i : ℕ) where
       ∙ ap (λ (es : List ToldStep). stepImage (planVersion q) (t .bitmap) (nthStep es i)) (sym (tells-steps chip q))
 
   -- by what was told: a refusal, or a plan
-  pub refused-image : (a : Answer) (r : Refusal) → toldAnswer chip a ≡ Refused r → planImage chip a i ≡ no-image r
+  told-image : (t : Table) (a : Answer) → Planning (Writes t) a → planImage chip a i ≡ toldImage (t .bitmap) (toldAnswer chip a) i
   unfolding planImage
-  refused-image (refuse s) r e = let q : s ≡ r = cc in ap no-image q
-  refused-image (plan q) r e = absurd (let z : _≡_ {A = ℕ} 0 1 = cc in omega arith)
+  told-image t (refuse r) w = refl
+  told-image t (plan q) w = plan-told t q w
 
-  planned-image : (t : Table) (a : Answer) (told : ToldPlan) → Planning (Writes t) a → toldAnswer chip a ≡ Planned told
-      → planImage chip a i ≡ stepImage (told .version) (t .bitmap) (nthStep (toldSteps told) i)
-  planned-image t (refuse s) told w e = absurd (let z : _≡_ {A = ℕ} 0 1 = cc in omega arith)
-  planned-image t (plan q) told w e =
-      let same : toldPlan chip q ≡ told = cc in
-      plan-told t q w ∙ ap (λ (x : ToldPlan). stepImage (x .version) (t .bitmap) (nthStep (toldSteps x) i)) same
+-- ---- the code's way: what was planned, then its step
+pub refused-told : (bitmap : List ℕ) (i : ℕ) {a : PlanAnswer} (r : Refusal) → a ≡ Refused r → toldImage bitmap a i ≡ no-image r
+refused-told bitmap i r e = ap (λ (x : PlanAnswer). toldImage bitmap x i) e
+
+pub step-told : (bitmap : List ℕ) (i : ℕ) {a : PlanAnswer} (q : ToldPlan) → a ≡ Planned q → (s : ToldStep) → s ≡ nthStep (toldSteps q) i
+    → toldImage bitmap a i ≡ stepImage (q .version) bitmap s
+step-told bitmap i q e s es = ap (λ (x : PlanAnswer). toldImage bitmap x i) e ∙ ap (stepImage (q .version) bitmap) (sym es)
 
 -- ---- a work
 -- the table of what was planned first, whose bitmap is the work's
@@ -136,10 +130,16 @@ module _ (chip : LargeChip) (image w : List ℕ) where
   work-source (Merge p m) = (anded (storedTable chip image (p .0)) (storedTable chip image (m .0)), refl, refl)
 
   -- once steps have failed, the table is the same
-  pub after-planned : (R : View) (work : Work) (failed : List ℕ) (i : ℕ) (q : ToldPlan) → toldAnswer chip (failures chip R (workAnswer chip image w work) failed) ≡ Planned q
-      → (s : ToldStep) → s ≡ nthStep (toldSteps q) i
-      → planImage chip (failures chip R (workAnswer chip image w work) failed) i ≡ stepImage (q .version) (workBitmap chip image w work) s
-  after-planned R work failed i q e s es =
+  pub after-told : (R : View) (work : Work) (failed : List ℕ) (i : ℕ) (told : PlanAnswer)
+      → told ≡ toldAnswer chip (failures chip R (workAnswer chip image w work) failed)
+      → planImage chip (failures chip R (workAnswer chip image w work) failed) i ≡ toldImage (workBitmap chip image w work) told i
+  after-told R work failed i told e =
       let src = work-source work in
-      planned-image chip i (src .0) (failures chip R (workAnswer chip image w work) failed) q (table-kept chip R (src .0) (workAnswer chip image w work) failed (src .1)) e
-      ∙ ap₂ (stepImage (q .version)) (src .2) (sym es)
+      told-image chip i (src .0) _ (table-kept chip R (src .0) (workAnswer chip image w work) failed (src .1))
+      ∙ ap₂ (λ (l : List ℕ) (x : PlanAnswer). toldImage l x i) (src .2) (sym e)
+
+  -- at once, where none has
+  pub first-told : (R : View) (work : Work) (failed : List ℕ) (i : ℕ) (told : PlanAnswer) → length failed ≡ 0
+      → told ≡ toldAnswer chip (workAnswer chip image w work)
+      → planImage chip (failures chip R (workAnswer chip image w work) failed) i ≡ toldImage (workBitmap chip image w work) told i
+  first-told R work failed i told none e = after-told R work failed i told (e ∙ ap (toldAnswer chip) (sym (failures-none chip R _ failed none)))

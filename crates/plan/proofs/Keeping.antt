@@ -1,5 +1,4 @@
--- Laws of failed steps: with none nothing changes, a refusal stays the refusal, and what the moving of a copy to another block keeps of a plan, failures keep: its table
--- and its version.
+-- Laws of failed steps: with none nothing changes, and what the moving of a copy to another block keeps of a plan, failures keep: its table.
 -- Assumes nothing.
 use mathlib.Core.Bool.{Bool, true, false, cond}
 use mathlib.Core.List.{List, [], _∷_}
@@ -12,22 +11,16 @@ use lib.ListN.{length}
 use Rattle.bbt.specs.Copies.{Table}
 use Rattle.bbt.specs.Failures.{otherBlock, moved, movedTo, blockFails, stepFails, failure, failures}
 use Rattle.bbt.specs.Pages.{View}
-use Rattle.bbt.specs.Plans.{Step, erase, write, zeros, Job, idle, single, double, Plan, stepsOf, stepAt, jobVersion, Answer, refuse, plan, target}
+use Rattle.bbt.specs.Plans.{Step, erase, write, zeros, Job, idle, single, double, Plan, stepsOf, stepAt, Answer, refuse, plan, target}
 use Rattle.bbt.specs.declared.Kind.the-variants.{Mirror}
 use Rattle.chip.specs.Large.{pagesOf}
 use Rattle.chip.specs.declared.LargeChip.{LargeChip}
-use Rattle.chip.specs.declared.Refusal.{Refusal}
 
--- ---- no failed step, and a refusal
+-- ---- no failed step
 pub failures-none : (chip : LargeChip) (R : View) (a : Answer) (is : List ℕ) → length is ≡ 0 → failures chip R a is ≡ a
 unfolding failures
 failures-none chip R a [] e = refl
 failures-none chip R a (i ∷ is) e = absurd (omega arith)
-
-pub failures-refused : (chip : LargeChip) (R : View) (r : Refusal) (is : List ℕ) → failures chip R (refuse r) is ≡ refuse r
-unfolding failures failure
-failures-refused chip R r [] = refl
-failures-refused chip R r (i ∷ is) = failures-refused chip R r is
 
 -- ---- what a plan writes, where there is one, has a property
 abbrev pub Planning : (Job → Type 0) → Answer → Type 0
@@ -75,20 +68,3 @@ moved-writes t (double p m u) b x h = go (eqb b p)
 
 pub table-kept : (chip : LargeChip) (R : View) (t : Table) (a : Answer) (is : List ℕ) → Planning (Writes t) a → Planning (Writes t) (failures chip R a is)
 table-kept chip R t = failures-keep chip R (Writes t) (moved-writes t)
-
--- ---- the version that it tells
-abbrev pub Versioned : ℕ → Job → Type 0
-Versioned v j = jobVersion j ≡ v
-
-moved-version : (v : ℕ) (j : Job) (b x : ℕ) → Versioned v j → Versioned v (moved j b x)
-unfolding moved jobVersion
-moved-version v (idle w) b x h = h
-moved-version v (single k c g u) b x h = h
-moved-version v (double p m u) b x h = go (eqb b p)
-  where
-    go : (s : Bool) → Versioned v (cond s (double x m u) (single Mirror x p u))
-    go true = h
-    go false = h
-
-pub version-kept : (chip : LargeChip) (R : View) (v : ℕ) (a : Answer) (is : List ℕ) → Planning (Versioned v) a → Planning (Versioned v) (failures chip R a is)
-version-kept chip R v = failures-keep chip R (Versioned v) (moved-version v)

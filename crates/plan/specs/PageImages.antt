@@ -5,12 +5,17 @@ use mathlib.Core.List.{List}
 use Prim.Native.Nat.{ℕ}
 use lib.Dec.{eqb, leb}
 use lib.ListN.{length}
-use Rattle.bbt.specs.Images.{Imaged, no-image, page-image, partImage}
+use Rattle.bbt.specs.Images.{chunk, Imaged, no-image, page-image, partImage}
 use Rattle.bbt.specs.Lent.{onChip, imaged}
 use Rattle.bbt.specs.Plans.{Call}
+use Rattle.bbt.specs.Told.{toldSteps, nthStep}
 use Rattle.bbt.specs.declared.Kind.{Kind}
+use Rattle.bbt.specs.declared.PlanAnswer.{PlanAnswer}
+use Rattle.bbt.specs.declared.PlanAnswer.the-variants.{Planned, Refused as NotPlanned}
+use Rattle.bbt.specs.declared.Step.{Step}
+use Rattle.bbt.specs.declared.Step.the-variants.{Erase, Write, Zero, Past}
 use Rattle.chip.specs.Large.{chipOf}
-use Rattle.chip.specs.declared.Refusal.the-variants.{Length}
+use Rattle.chip.specs.declared.Refusal.the-variants.{Length, Range}
 use Rattle.plan.specs.declared.ImageAnswer.{ImageAnswer}
 use Rattle.plan.specs.declared.ImageAnswer.the-variants.{Made, Refused}
 use Rattle.region.specs.Cases.{lentCase}
@@ -21,6 +26,18 @@ use Rattle.region.specs.declared.LentCase.the-variants.{Refused as NoCase}
 -- a page of 2,112 bytes after the image of a part of at most 2,048 bytes was put into it; of other lengths, nothing is
 unfoldable pub imageInto : Kind → ℕ → List ℕ → List ℕ → List ℕ
 imageInto k v part page = cond (eqb (length page) 2112 && leb (length part) 2048) (partImage k v part) page
+
+-- the image of a told step, where pages of this version and bitmap are written
+abbrev pub stepImage : ℕ → List ℕ → Step → Imaged
+stepImage v bitmap (Erase b) = no-image Range
+stepImage v bitmap (Write b p k) = page-image (partImage k v (chunk p bitmap))
+stepImage v bitmap (Zero b) = no-image Range
+stepImage v bitmap Past = no-image Range
+
+-- the image of step i of what was told, where this bitmap is written
+abbrev pub toldImage : List ℕ → PlanAnswer → ℕ → Imaged
+toldImage bitmap (Planned q) i = stepImage (q .version) bitmap (nthStep (toldSteps q) i)
+toldImage bitmap (NotPlanned r) i = no-image r
 
 -- N and the region's size first (2), then room for a page (1), then the image of step i of the plan; its own refusal comes last
 unfoldable pub lentImage : ℕ → ℕ → Call → List ℕ → List ℕ → List ℕ → ℕ → List ℕ → Imaged

@@ -12,7 +12,7 @@ ghost use Rattle.bbt.specs.Told.{toldAnswer};
 ghost use Rattle.bitmap.specs.Made.{newEqualsOld};
 ghost use Rattle.chip.specs.Large.{bitmapBytes, pagesOf};
 ghost use Rattle.plan.specs.Answers.{planAnswer};
-ghost use Rattle.plan.specs.PageImages.{imageInto, imageAnswerBy, imageAfterBy, pageCase, imageAnswer, imageAfter};
+ghost use Rattle.plan.specs.PageImages.{imageInto, imageAnswerBy, imageAfterBy, toldImage, pageCase, imageAnswer, imageAfter};
 ghost use Rattle.plan.specs.Works.{updateWork, missingWork, newerWork, recoveryWork, workAnswer, workBitmap, Sourced};
 ghost use Rattle.retire.specs.Retiring.{Lends};
 use bbt::Kind;
@@ -335,6 +335,39 @@ pub enum ImageAnswer {
     Refused(Refusal),
 }
 
+// The page image of a step of what was planned for a work.
+fn page_by(
+    chip: LargeChip,
+    image: &[u8],
+    wanted: &[u8],
+    work: Work,
+    answer: PlanAnswer,
+    step: u64,
+    page: &mut [u8],
+) -> ImageAnswer
+    requires { ⌜ Sourced chip (length (now image)) (length (now wanted)) work × (length (now page) ≡ 2112) ⌝ }
+    ensures answer { λ r. ⌜ r ≡ imageAnswerBy (toldImage (workBitmap chip (now (image .entry)) (now (wanted .entry)) work) answer step) ⌝ }
+    ensures out { λ _. ⌜ now (page .exit) ≡ imageAfterBy (toldImage (workBitmap chip (now (image .entry)) (now (wanted .entry)) work) answer step) (now (page .entry)) ⌝ }
+{
+    match answer {
+        PlanAnswer::Refused(r) => ImageAnswer::Refused(r),
+        PlanAnswer::Planned(plan) => {
+            let version = plan.version;
+            match plan.step(step) {
+                Step::Erase(_) => ImageAnswer::Refused(Refusal::Range),
+                Step::Zero(_) => ImageAnswer::Refused(Refusal::Range),
+                Step::Past => ImageAnswer::Refused(Refusal::Range),
+                Step::Write(_, p, kind) => {
+                    let mut part = [0u8; LargeChip::PAGE];
+                    let n = new_part(chip, image, wanted, work, p, &mut part);
+                    page_image(&part[0..n], kind, version, page);
+                    ImageAnswer::Made
+                }
+            }
+        }
+    }
+}
+
 // The page image of a step of a work's plan, once these steps have failed.
 fn page_of(
     n: u64,
@@ -352,23 +385,12 @@ fn page_of(
     ensures answer { λ r. ⌜ r ≡ imageAnswerBy (planImage chip (failures chip (seen chip (now (image .entry)) (now (status .entry))) (workAnswer chip (now (image .entry)) (now (wanted .entry)) work) (now (failed .entry))) step) ⌝ }
     ensures out { λ _. ⌜ now (page .exit) ≡ imageAfterBy (planImage chip (failures chip (seen chip (now (image .entry)) (now (status .entry))) (workAnswer chip (now (image .entry)) (now (wanted .entry)) work) (now (failed .entry))) step) (now (page .entry)) ⌝ }
 {
-    match plan_after(n, size, chip, image, status, wanted, work, failed) {
-        PlanAnswer::Refused(r) => ImageAnswer::Refused(r),
-        PlanAnswer::Planned(plan) => {
-            let version = plan.version;
-            match plan.step(step) {
-                Step::Erase(_) => ImageAnswer::Refused(Refusal::Range),
-                Step::Zero(_) => ImageAnswer::Refused(Refusal::Range),
-                Step::Past => ImageAnswer::Refused(Refusal::Range),
-                Step::Write(_, p, kind) => {
-                    let mut part = [0u8; LargeChip::PAGE];
-                    let n = new_part(chip, image, wanted, work, p, &mut part);
-                    page_image(&part[0..n], kind, version, page);
-                    ImageAnswer::Made
-                }
-            }
-        }
+    if failed.len() == 0 {
+        let first = plan_of(chip, image, wanted, work);
+        return page_by(chip, image, wanted, work, first, step, page);
     }
+    let after = plan_after(n, size, chip, image, status, wanted, work, failed);
+    page_by(chip, image, wanted, work, after, step, page)
 }
 
 // The pair's case where room for a page is lent too: N and the region's size are judged, then lengths, then status bytes.

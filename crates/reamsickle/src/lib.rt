@@ -1,9 +1,10 @@
 // The C entries: thin functions on numbers and byte slices over the crates below. Each has its answer as one number (include/reamsickle.h).
+ghost use mathlib.Core.List.{[]};
 ghost use mathlib.Core.Path.{_≡_};
 ghost use Prim.Native.Nat.{_*_, _<_, _≤_};
 ghost use lib.ListN.{length};
 ghost use Rattle.bbt.specs.Plans.{for-update, for-recovery};
-ghost use Rattle.bbt.specs.Told.{toldSteps};
+ghost use Rattle.bbt.specs.Told.{stepsBy, retiredFirst, toldSteps};
 ghost use Rattle.bitmap.specs.Made.{firstAfter};
 ghost use Rattle.bits.specs.Bytes.{copied};
 ghost use Rattle.reamsickle.specs.Boundary.{refusalCode, fieldBytes, halfCode, halfCodeAfter, writeCode, spareCode, spareFieldsAfter, pageCode, pageDataAfter, pageFieldsAfter};
@@ -14,6 +15,8 @@ ghost use Rattle.region.specs.Tables.{tableAfter};
 ghost use Rattle.spare.specs.Writing.{spareAfter};
 use bbt::Plan;
 use bbt::PlanAnswer;
+use bbt::Retired;
+use bbt::Shape;
 use bbt::Step;
 use bitmap::BitmapAnswer;
 use chip::ChipAnswer;
@@ -189,20 +192,49 @@ fn step_bytes(step: Step) -> [u8; 4]
     }
 }
 
-// Puts the steps of a plan into the first bytes of `steps`.
-fn put_steps(plan: Plan, steps: &mut [u8])
-    requires { ⌜ 4 * length (toldSteps plan) ≤ length (now steps) ⌝ }
-    ensures { λ _. ⌜ now (steps .exit) ≡ stepsPut (toldSteps plan) (now (steps .entry)) ⌝ }
+// Puts the zero step, where a block is retired, into the first bytes of `steps`, and tells how many it takes.
+fn put_zero(chip: LargeChip, retired: Retired, steps: &mut [u8]) -> usize
+    requires { ⌜ 4 ≤ length (now steps) ⌝ }
+    ensures count { λ r. ⌜ r ≡ 4 * length (retiredFirst chip retired []) ⌝ }
+    ensures out { λ _. ⌜ now (steps .exit) ≡ stepsPut (retiredFirst chip retired []) (now (steps .entry)) ⌝ }
 {
-    let total = plan.step_count() as usize;
+    match retired {
+        Retired::Nothing => 0,
+        Retired::Block(b) => {
+            let four = step_bytes(Step::Zero(bbt::chip_block(chip, b)));
+            bits::copy(&four, &mut steps[0..4]);
+            4
+        }
+    }
+}
+
+// Puts the steps that write what a plan writes into the first bytes of `steps`.
+fn put_shape(chip: LargeChip, shape: Shape, steps: &mut [u8])
+    requires { ⌜ 4 * length (stepsBy chip shape) ≤ length (now steps) ⌝ }
+    ensures { λ _. ⌜ now (steps .exit) ≡ stepsPut (stepsBy chip shape) (now (steps .entry)) ⌝ }
+{
+    let total = bbt::shape_count(chip, shape) as usize;
     let mut k: usize = 0;
     while k < total {
-        let four = step_bytes(plan.step(k as u64));
+        let four = step_bytes(bbt::shape_step(chip, shape, k as u64));
         let at = 4 * k;
         let end = at + 4;
         bits::copy(&four, &mut steps[at..end]);
         k += 1;
     }
+}
+
+// Puts the steps of a plan into the first bytes of `steps`: the zero step, where there is one, and the others behind it.
+fn put_steps(plan: Plan, steps: &mut [u8])
+    requires { ⌜ (4 * length (toldSteps plan) ≤ length (now steps)) × (4 ≤ length (now steps)) ⌝ }
+    ensures { λ _. ⌜ now (steps .exit) ≡ stepsPut (toldSteps plan) (now (steps .entry)) ⌝ }
+{
+    let chip = plan.chip;
+    let retired = plan.retired;
+    let shape = plan.shape;
+    let at = put_zero(chip, retired, steps);
+    let end = steps.len();
+    put_shape(chip, shape, &mut steps[at..end]);
 }
 
 // Tells what was planned where there is room for sixteen steps.

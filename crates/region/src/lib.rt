@@ -280,10 +280,10 @@ fn case_on(chip: LargeChip, beside: Beside, image: &[u8], status: &[u8]) -> Lent
 pub fn case_of(n: u64, size: u64, beside: Beside, image: &[u8], status: &[u8]) -> LentCase
     ensures { λ r. ⌜ r ≡ lentCase n size beside (now (image .entry)) (now (status .entry)) ⌝ }
 {
-    match LargeChip::new(n, size) {
-        ChipAnswer::Refused(r) => LentCase::Refused(r),
-        ChipAnswer::Chip(chip) => case_on(chip, beside, image, status),
+    if LargeChip::exists(n, size) {
+        return case_on(LargeChip::of(n, size), beside, image, status);
     }
+    LentCase::Refused(Refusal::Range)
 }
 
 // Does page i show 64 zero OOB bytes?
@@ -411,10 +411,10 @@ pub fn find_target(
 ) -> TargetAnswer
     ensures { λ r. ⌜ r ≡ lentTarget n size (now (image .entry)) (now (status .entry)) avoid ⌝ }
 {
-    match LargeChip::new(n, size) {
-        ChipAnswer::Refused(r) => TargetAnswer::Refused(r),
-        ChipAnswer::Chip(chip) => target_on(chip, image, status, avoid),
+    if LargeChip::exists(n, size) {
+        return target_on(LargeChip::of(n, size), image, status, avoid);
     }
+    TargetAnswer::Refused(Refusal::Range)
 }
 
 // Copies the bitmap of region block b.

@@ -1,34 +1,26 @@
--- A told plan when its steps fail: what the code answers by a block that fails, by a told step, and step after step, is what the rules make of
--- the plan.
+-- A told plan when its steps fail: what the code makes of it by a step that fails, and step after step, is what the rules make of the plan.
 -- Assumes nothing.
-use mathlib.Core.Bool.{Bool, true, false}
+use mathlib.Core.Bool.{Bool, false}
 use mathlib.Core.List.{List, [], _∷_}
 use mathlib.Core.Option.{Option, none, some}
 use mathlib.Core.Path.{_≡_, refl, sym, ap, subst, _∙_}
 use Prim.Native.Nat.{ℕ}
-use native.Mathlib.Omega.{arith}
-use lib.ListN.{length, set, replicate}
+use lib.ListN.{length, replicate, length-set}
 use Rattle.chip.specs.Large.{pagesOf}
-use Rattle.chip.specs.declared.ChipBlock.{ChipBlock}
 use Rattle.chip.specs.declared.LargeChip.{LargeChip}
 use Rattle.chip.specs.declared.Refusal.{Refusal}
-use Rattle.chip.specs.declared.Refusal.the-variants.{Range, ZeroFailed}
 use Rattle.bbt.proofs.ToldSteps.{tells-steps}
 use Rattle.bbt.specs.Failures.{movedTo, blockFails, stepFails, failure, failures, otherBlock}
 use Rattle.bbt.specs.Pages.{View, seen}
 use Rattle.bbt.specs.Plans.{Step, erase, write, zeros, Plan, stepsOf, stepAt, Answer, refuse, plan, target}
-use Rattle.bbt.specs.Told.{toldRetired, toldPlan, toldAnswer, toldSteps, nthStep}
-use Rattle.bbt.specs.declared.Plan.{Plan as ToldPlan}
-use Rattle.bbt.specs.declared.PlanAnswer.{PlanAnswer}
-use Rattle.bbt.specs.declared.PlanAnswer.the-variants.{Planned, Refused as NotPlanned}
+use Rattle.bbt.specs.Told.{chipBlock, toldShape, toldRetired, toldPlan, toldAnswer, toldSteps, nthStep}
+use Rattle.bbt.specs.declared.Retired.{Retired}
+use Rattle.bbt.specs.declared.Retired.the-variants.{Nothing, Block}
 use Rattle.bbt.specs.declared.Step.{Step as ToldStep}
-use Rattle.bbt.specs.declared.Step.the-variants.{Erase, Write, Zero, Past}
 use Rattle.region.proofs.Flagging.{flags-none, flags-more}
-use Rattle.region.specs.Targets.{Flags, lentTarget}
-use Rattle.region.specs.declared.TargetAnswer.{TargetAnswer}
-use Rattle.retire.specs.Retiring.{copyAt, alsoRetired, Lends, BlockRetired, StepRetired, AllRetired}
-use Rattle.retire.specs.declared.Copy.{Copy}
-use Rattle.retire.proofs.Telling.{copyOf, copy-told, answerBy, answer-told, target-lent, toldMaybe, nth-told, Of, step-of}
+use Rattle.region.specs.Targets.{Flags}
+use Rattle.retire.specs.Retiring.{copyAt, alsoRetired, copyRetired, stepRetired, onPlan, stepsRetired, allRetired, Lends, RetiresByRules}
+use Rattle.retire.proofs.Telling.{WritesTo, copy-told, answer-told, target-lent, toldMaybe, nth-told, Of, step-of}
 
 -- ---- the flags, with the block that a plan retires, are those of its failed blocks
 abbrev Flagged : List Bool → Answer → Type 0
@@ -48,96 +40,65 @@ failed-flagged chip R gone q (some (erase b)) e flags = moved-flagged gone q b _
 failed-flagged chip R gone q (some (write b p k t)) e flags = moved-flagged gone q b _ e flags
 failed-flagged chip R gone q (some (zeros b)) e flags = tt
 
--- a refusal is passed on
+still-seven : (gone : List Bool) (r : Retired) → length gone ≡ 7 → length (alsoRetired gone r) ≡ 7
+still-seven gone Nothing e = e
+still-seven gone (Block b) e = simp length-set e
+
+-- ---- a refusal is passed on
 refused-on : (chip : LargeChip) (R : View) (x : Refusal) (rest : List ℕ) → failures chip R (refuse x) rest ≡ refuse x
 unfolding failures failure
 refused-on chip R x [] = refl
 refused-on chip R x (k ∷ rest) = refused-on chip R x rest
 
-module _ (n size : ℕ) (image status : List ℕ) where
-  -- ---- a block
-  -- of its copy as it is told, and the target beside that copy's blocks and those flagged
-  pub block-retired : (gone : List Bool) (told : ToldPlan) (c : ChipBlock) (copy : Copy) (more avoid : List Bool) (t : TargetAnswer) → length gone ≡ 7
-      → copy ≡ copyAt (told .chip) (told .shape) c → more ≡ set gone (copy .block .0) true → avoid ≡ set more (copy .other .0) true
-      → t ≡ lentTarget n size image status avoid → BlockRetired n size image status gone told c (answerBy told (copy .block) t)
+module _ {n size : ℕ} {chip : LargeChip} {image status : List ℕ} (lends : Lends n size chip image status) where
+  abbrev R : View
+  R = seen chip image status
+
+  -- ---- a block, a step
+  block-retired : (gone : List Bool) (q : Plan) (b : ℕ) → length gone ≡ 7 → Flags gone (q .failed) → WritesTo (q .job) b
+      → copyRetired n size image status gone (toldPlan chip q) (copyAt chip (toldShape (q .job)) (chipBlock chip b)) ≡ toldAnswer chip (blockFails chip R q b)
   unfolding blockFails
-  block-retired gone told c copy more avoid t e the-copy one two the-target chip q b lends the-plan flags writes the-block =
-      let is : copy ≡ copyOf b (otherBlock (q .job) b)
-      = the-copy ∙ rw (the-plan, the-block) (copy-told chip (q .job) b writes) in
-      rw (the-target, two, one, is, the-plan, target-lent lends gone (q .failed) b (otherBlock (q .job) b) e flags)
-      (answer-told chip q b (target chip (seen chip image status) (otherBlock (q .job) b ∷ b ∷ q .failed)))
+  block-retired gone q b e flags w =
+      rw (copy-told chip (q .job) b w, target-lent lends gone (q .failed) b (otherBlock (q .job) b) e flags)
+      (answer-told chip q b (target chip R (otherBlock (q .job) b ∷ b ∷ q .failed)))
 
-  -- ---- a step
-  -- r answers that a told step has failed
-  abbrev pub Answers : List Bool → ToldPlan → ToldStep → PlanAnswer → Type 0
-  Answers gone told (Erase c) r = BlockRetired n size image status gone told c r
-  Answers gone told (Write c p k) r = BlockRetired n size image status gone told c r
-  Answers gone told (Zero c) r = r ≡ NotPlanned ZeroFailed
-  Answers gone told Past r = r ≡ NotPlanned Range
-
-  pub step-retired : (gone : List Bool) (told : ToldPlan) (k : ℕ) (s : ToldStep) (r : PlanAnswer) → s ≡ nthStep (toldSteps told) k
-      → Answers gone told s r → StepRetired n size image status gone told k r
+  step-retired : (gone : List Bool) (q : Plan) (k : ℕ) → length gone ≡ 7 → Flags gone (q .failed)
+      → stepRetired n size image status gone (toldPlan chip q) (nthStep (toldSteps (toldPlan chip q)) k) ≡ toldAnswer chip (failure chip R (plan q) k)
   unfolding failure stepFails
-  step-retired gone told k s r the-step answers chip q lends the-plan flags =
-      go (stepAt (stepsOf (pagesOf chip) q) k) (step-of (pagesOf chip) (q .failed) (q .job) k)
-      (subst (λ (x : ToldStep). Answers gone told x r) is answers)
+  step-retired gone q k e flags =
+      ap (stepRetired n size image status gone (toldPlan chip q)) is
+      ∙ go (stepAt (stepsOf (pagesOf chip) q) k) (step-of (pagesOf chip) (q .failed) (q .job) k)
     where
-      is : s ≡ toldMaybe chip (stepAt (stepsOf (pagesOf chip) q) k)
-      is =
-          the-step ∙ ap (λ (x : ToldPlan). nthStep (toldSteps x) k) the-plan ∙ ap (λ (es : List ToldStep). nthStep es k) (tells-steps chip q)
-          ∙ nth-told chip (stepsOf (pagesOf chip) q) k
+      is : nthStep (toldSteps (toldPlan chip q)) k ≡ toldMaybe chip (stepAt (stepsOf (pagesOf chip) q) k)
+      is = ap (λ (es : List ToldStep). nthStep es k) (tells-steps chip q) ∙ nth-told chip (stepsOf (pagesOf chip) q) k
 
-      go : (s : Option Step) → Of (q .job) s → Answers gone told (toldMaybe chip s) r
-          → r ≡ toldAnswer chip (stepFails chip (seen chip image status) q s)
-      go none w a = a
-      go (some (erase b)) w a = a chip q b lends the-plan flags w refl
-      go (some (write b p x t)) w a = a chip q b lends the-plan flags w refl
-      go (some (zeros b)) w a = a
+      go : (s : Option Step) → Of (q .job) s
+          → stepRetired n size image status gone (toldPlan chip q) (toldMaybe chip s) ≡ toldAnswer chip (stepFails chip R q s)
+      go none w = refl
+      go (some (erase b)) w = block-retired gone q b e flags w
+      go (some (write b p x t)) w = block-retired gone q b e flags w
+      go (some (zeros b)) w = refl
 
   -- ---- step after step
-  -- r is what is planned once the rest of the steps have failed, under the plan told and beside the blocks flagged
-  abbrev pub RestRetired : List Bool → ToldPlan → List ℕ → PlanAnswer → Type 0
-  RestRetired gone told rest r =
-      (chip : LargeChip) (q : Plan) → Lends n size chip image status → told ≡ toldPlan chip q → Flags gone (q .failed)
-      → r ≡ toldAnswer chip (failures chip (seen chip image status) (plan q) rest)
-
-  pub rest-none : (gone : List Bool) (told : ToldPlan) → RestRetired gone told [] (Planned told)
-  unfolding failures
-  rest-none gone told chip q lends the-plan flags = ap Planned the-plan
-
-  pub rest-refused : (gone : List Bool) (told : ToldPlan) (k : ℕ) (rest : List ℕ) (x : Refusal)
-      → StepRetired n size image status gone told k (NotPlanned x) → RestRetired gone told (k ∷ rest) (NotPlanned x)
-  unfolding failures
-  rest-refused gone told k rest x step chip q lends the-plan flags =
-      go (failure chip (seen chip image status) (plan q) k) (step chip q lends the-plan flags)
+  steps-retired : (gone : List Bool) (q : Plan) (ks : List ℕ) → length gone ≡ 7 → Flags gone (q .failed)
+      → stepsRetired n size image status gone (toldPlan chip q) ks ≡ toldAnswer chip (failures chip R (plan q) ks)
+  unfolding stepsRetired failures failure
+  steps-retired gone q [] e flags = refl
+  steps-retired gone q (k ∷ ks) e flags =
+      ap (onPlan (λ next. stepsRetired n size image status (alsoRetired gone (next .retired)) next ks)) (step-retired gone q k e flags)
+      ∙ go (failure chip R (plan q) k) (failed-flagged chip R gone q (stepAt (stepsOf (pagesOf chip) q) k) e flags)
+      (λ q′ f. steps-retired (alsoRetired gone (toldRetired (q′ .failed))) q′ ks (still-seven gone (toldRetired (q′ .failed)) e) f)
     where
-      go : (a : Answer) → NotPlanned x ≡ toldAnswer chip a → NotPlanned x ≡ toldAnswer chip (failures chip (seen chip image status) a rest)
-      go (refuse y) e = e ∙ ap (toldAnswer chip) (sym (refused-on chip (seen chip image status) y rest))
-      go (plan q') e = absurd (let z : _≡_ {A = ℕ} 0 1 = cc in omega arith)
+      go : (a : Answer) → Flagged gone a
+          → ((q′ : Plan) → Flagged gone (plan q′)
+          → stepsRetired n size image status (alsoRetired gone (toldRetired (q′ .failed))) (toldPlan chip q′) ks ≡ toldAnswer chip (failures chip R (plan q′) ks))
+          → onPlan (λ next. stepsRetired n size image status (alsoRetired gone (next .retired)) next ks) (toldAnswer chip a) ≡ toldAnswer chip (failures chip R a ks)
+      go (refuse x) f on = ap (toldAnswer chip) (sym (refused-on chip R x ks))
+      go (plan q′) f on = on q′ f
 
-  pub rest-next : (gone : List Bool) (told : ToldPlan) (k : ℕ) (rest : List ℕ) (next : ToldPlan) (r : PlanAnswer) → length gone ≡ 7
-      → StepRetired n size image status gone told k (Planned next) → RestRetired (alsoRetired gone (next .retired)) next rest r
-      → RestRetired gone told (k ∷ rest) r
-  unfolding failures failure
-  rest-next gone told k rest next r e step left chip q lends the-plan flags =
-      go (failure chip (seen chip image status) (plan q) k)
-      (failed-flagged chip (seen chip image status) gone q (stepAt (stepsOf (pagesOf chip) q) k) e flags) (step chip q lends the-plan flags)
-    where
-      go : (a : Answer) → Flagged gone a → Planned next ≡ toldAnswer chip a → r ≡ toldAnswer chip (failures chip (seen chip image status) a rest)
-      go (refuse y) f e = absurd (let z : _≡_ {A = ℕ} 0 1 = cc in omega arith)
-      go (plan q') f e =
-          let same : next ≡ toldPlan chip q' = cc in
-          left chip q' lends same (subst (λ (x : ToldPlan). Flags (alsoRetired gone (x .retired)) (q' .failed)) (sym same) f)
-
-  -- all of them, from the first plan on
-  pub rest-all : (first : ToldPlan) (failed : List ℕ) (r : PlanAnswer) → RestRetired (replicate 7 false) first failed r
-      → AllRetired n size image status (Planned first) failed r
-  rest-all first failed r rest chip (refuse x) lends new e = absurd (let z : _≡_ {A = ℕ} 0 1 = cc in omega arith)
-  rest-all first failed r rest chip (plan q) lends new e =
-      let same : first ≡ toldPlan chip q = cc in
-      rest chip q lends same (subst (λ (bs : List ℕ). Flags (replicate 7 false) bs) (sym new) flags-none)
-
-  -- a refusal is passed on
-  pub refused-all : (x : Refusal) (failed : List ℕ) → AllRetired n size image status (NotPlanned x) failed (NotPlanned x)
-  refused-all x failed chip (refuse y) lends new e = e ∙ ap (toldAnswer chip) (sym (refused-on chip (seen chip image status) y failed))
-  refused-all x failed chip (plan q) lends new e = absurd (let z : _≡_ {A = ℕ} 0 1 = cc in omega arith)
+-- ---- all of them, from the first plan on
+pub retires-by-rules : RetiresByRules
+unfolding allRetired
+retires-by-rules n size chip image status (refuse x) failed lends new = ap (toldAnswer chip) (sym (refused-on chip (seen chip image status) x failed))
+retires-by-rules n size chip image status (plan q) failed lends new =
+    steps-retired lends (replicate 7 false) q failed refl (subst (λ (bs : List ℕ). Flags (replicate 7 false) bs) (sym new) flags-none)

@@ -5,26 +5,26 @@ use mathlib.Core.Bool.{Bool, true, false, cond}
 use mathlib.Core.List.{List, [], _∷_, map}
 use mathlib.Core.Logic.{_⊎_, inl, inr, ⊎-elim}
 use mathlib.Core.Option.{Option, none, some}
-use mathlib.Core.Path.{_≡_, refl, ap}
-use Prim.Native.Nat.{ℕ, zero, suc}
+use mathlib.Core.Path.{_≡_, refl, ap, sym}
+use Prim.Native.Nat.{ℕ, zero, suc, _+_, _<_, _≤_}
+use native.Mathlib.Numerals.{add-one}
 use native.Mathlib.Omega.{arith}
 use borrow.Author.Tests.{eqb-true, eqb-false, eq-eqb, ne-eqb}
 use lib.Dec.{eqb}
-use lib.ListN.{length, set, length-set}
+use lib.ListN.{length, getD, drop, set, length-set, drop-of-length-le}
+use lib.Seq.{drop-cons}
+use Rattle.chip.specs.declared.ChipBlock.{ChipBlock}
 use Rattle.chip.specs.declared.LargeChip.{LargeChip}
-use Rattle.chip.specs.declared.Refusal.the-variants.{NoTarget}
-use Rattle.chip.specs.declared.RegionBlock.{RegionBlock}
 use Rattle.bbt.specs.Copies.{Table}
 use Rattle.bbt.specs.Failures.{otherBlock, moved, movedTo}
 use Rattle.bbt.specs.Pages.{seen}
 use Rattle.bbt.specs.Plans.{Step, erase, write, zeros, Job, idle, single, double, Plan, writes, copySteps, jobSteps, zeroFirst, stepAt, jobVersion, target}
-use Rattle.bbt.specs.Told.{regionBlock, chipBlock, toldShape, toldPlan, toldAnswer, toldStep, nthStep}
+use Rattle.bbt.specs.Told.{regionBlock, chipBlock, toldShape, toldPlan, toldAnswer, toldStep, toldSteps, nthStep}
 use Rattle.bbt.specs.declared.Kind.{Kind}
 use Rattle.bbt.specs.declared.Kind.the-variants.{Mirror}
 use Rattle.bbt.specs.declared.Plan.{Plan as ToldPlan}
 use Rattle.bbt.specs.declared.PlanAnswer.{PlanAnswer}
-use Rattle.bbt.specs.declared.PlanAnswer.the-variants.{Planned, Refused as NotPlanned}
-use Rattle.bbt.specs.declared.Retired.the-variants.{Block}
+use Rattle.bbt.specs.declared.PlanAnswer.the-variants.{Planned}
 use Rattle.bbt.specs.declared.Shape.the-variants.{One, Both}
 use Rattle.bbt.specs.declared.Step.{Step as ToldStep}
 use Rattle.bbt.specs.declared.Step.the-variants.{Past}
@@ -32,11 +32,15 @@ use Rattle.bbt.proofs.Raw.{chip-valid}
 use Rattle.region.proofs.Flagging.{target-flags, flags-more}
 use Rattle.region.specs.Targets.{Flags, toldTarget, targetOn, lentTarget}
 use Rattle.region.specs.declared.TargetAnswer.{TargetAnswer}
-use Rattle.region.specs.declared.TargetAnswer.the-variants.{Found, Missing, Refused}
-use Rattle.retire.specs.Retiring.{copyAt, movedShape, Lends, WritesTo}
+use Rattle.retire.specs.Retiring.{copyAt, movedShape, alsoRetired, answerBy, copyRetired, stepRetired, onPlan, stepsRetired, Lends}
 use Rattle.retire.specs.declared.Copy.{Copy}
 
--- ---- the copy of a block
+-- ---- the copy of a block that the plan writes one to
+abbrev pub WritesTo : Job → ℕ → Type 0
+WritesTo (idle v) b = ⊥
+WritesTo (single k c g t) b = b ≡ c
+WritesTo (double p m t) b = (b ≡ p) ⊎ (b ≡ m)
+
 abbrev pub copyOf : ℕ → ℕ → Copy
 copyOf b o = record { block = regionBlock b; other = regionBlock o }
 
@@ -83,18 +87,31 @@ moved-version (double p m t) b x = go (eqb b p)
     go true = refl
     go false = refl
 
--- what the code answers, by what it is told of a target
-abbrev pub answerBy : ToldPlan → RegionBlock → TargetAnswer → PlanAnswer
-answerBy told b (Found x) =
-    Planned (record { chip = told .chip; version = told .version; retired = Block b; shape = movedShape (told .shape) b x })
-answerBy told b Missing = NotPlanned NoTarget
-answerBy told b (Refused r) = NotPlanned r
-
+-- the plan made anew, by the target
 pub answer-told : (chip : LargeChip) (q : Plan) (b : ℕ) (t : Option ℕ)
     → answerBy (toldPlan chip q) (regionBlock b) (toldTarget t) ≡ toldAnswer chip (movedTo q b t)
 unfolding movedTo
 answer-told chip q b none = refl
 answer-told chip q b (some x) = rw (moved-told (q .job) b x, moved-version (q .job) b x) refl
+
+-- as the code comes to it: the copy, the flags with one block more and with another, the target
+pub as-told : (n size : ℕ) (image status : List ℕ) (gone : List Bool) (told : ToldPlan) (c : ChipBlock) (copy : Copy) (more avoid : List Bool) (t : TargetAnswer)
+    → copy ≡ copyAt (told .chip) (told .shape) c → more ≡ set gone (copy .block .0) true → avoid ≡ set more (copy .other .0) true
+    → t ≡ lentTarget n size image status avoid
+    → answerBy told (copy .block) t ≡ copyRetired n size image status gone told (copyAt (told .chip) (told .shape) c)
+as-told n size image status gone told c copy more avoid t the-copy one two the-target = rw (the-target, two, one, the-copy) refl
+
+-- step after step: the steps from number i of the list on, and none
+module _ (n size : ℕ) (image status : List ℕ) (gone : List Bool) (told : ToldPlan) (failed : List ℕ) (i : ℕ) where
+  pub next-step : (r a : PlanAnswer) → i < length failed → r ≡ stepRetired n size image status gone told (nthStep (toldSteps told) (getD failed i 0)) → r ≡ a
+      → stepsRetired n size image status gone told (drop i failed)
+      ≡ onPlan (λ next. stepsRetired n size image status (alsoRetired gone (next .retired)) next (drop (i + 1) failed)) a
+  unfolding stepsRetired
+  next-step r a h e f = rw (drop-cons failed i 0, sym e, f, add-one i) refl
+
+  pub none-left : length failed ≤ i → stepsRetired n size image status gone told (drop i failed) ≡ Planned told
+  unfolding stepsRetired
+  none-left h = rw (drop-of-length-le failed h) refl
 
 -- ---- the target of a lent region, by the flags of the blocks that have failed
 pub target-lent : {n size : ℕ} {chip : LargeChip} {image status : List ℕ} → Lends n size chip image status

@@ -1,29 +1,34 @@
 -- What the code makes of a told plan when its steps fail, and that it is what the rules of failed steps make of the plan (`Failures`, crate `bbt`).
-use mathlib.Core.Bool.{Bool, true, cond}
-use mathlib.Core.List.{List, []}
-use mathlib.Core.Logic.{_⊎_}
+use mathlib.Core.Bool.{Bool, true, false, cond}
+use mathlib.Core.List.{List, [], _∷_}
 use mathlib.Core.Path.{_≡_}
 use Prim.Native.Nat.{ℕ}
 use lib.Dec.{eqb}
-use lib.ListN.{set}
-use Rattle.bbt.specs.Failures.{blockFails, failure, failures}
+use lib.ListN.{replicate, set}
+use Rattle.bbt.specs.Failures.{failures}
 use Rattle.bbt.specs.Lent.{regionLent, statusesRight}
 use Rattle.bbt.specs.Pages.{seen}
-use Rattle.bbt.specs.Plans.{Job, idle, single, double, Plan, Answer, refuse, plan}
-use Rattle.bbt.specs.Told.{chipBlock, toldPlan, toldAnswer}
+use Rattle.bbt.specs.Plans.{Answer, refuse, plan}
+use Rattle.bbt.specs.Told.{chipBlock, toldAnswer, toldSteps, nthStep}
 use Rattle.bbt.specs.declared.Kind.the-variants.{Mirror}
 use Rattle.bbt.specs.declared.Plan.{Plan as ToldPlan}
 use Rattle.bbt.specs.declared.PlanAnswer.{PlanAnswer}
+use Rattle.bbt.specs.declared.PlanAnswer.the-variants.{Planned, Refused as NotPlanned}
 use Rattle.bbt.specs.declared.Retired.{Retired as ToldRetired}
 use Rattle.bbt.specs.declared.Retired.the-variants.{Nothing, Block}
 use Rattle.bbt.specs.declared.Shape.{Shape}
 use Rattle.bbt.specs.declared.Shape.the-variants.{Empty, One, Both}
+use Rattle.bbt.specs.declared.Step.{Step as ToldStep}
+use Rattle.bbt.specs.declared.Step.the-variants.{Erase, Write, Zero, Past}
 use Rattle.chip.specs.Large.{chipOf}
 use Rattle.chip.specs.declared.ChipAnswer.the-variants.{Chip}
 use Rattle.chip.specs.declared.ChipBlock.{ChipBlock}
 use Rattle.chip.specs.declared.LargeChip.{LargeChip}
+use Rattle.chip.specs.declared.Refusal.the-variants.{Range, NoTarget, ZeroFailed}
 use Rattle.chip.specs.declared.RegionBlock.{RegionBlock}
-use Rattle.region.specs.Targets.{Flags}
+use Rattle.region.specs.Targets.{lentTarget}
+use Rattle.region.specs.declared.TargetAnswer.{TargetAnswer}
+use Rattle.region.specs.declared.TargetAnswer.the-variants.{Found, Missing, Refused}
 use Rattle.retire.specs.declared.Copy.{Copy}
 
 -- ---- on what is told
@@ -44,6 +49,44 @@ abbrev pub alsoRetired : List Bool → ToldRetired → List Bool
 alsoRetired gone Nothing = gone
 alsoRetired gone (Block b) = set gone (b .0) true
 
+-- the plan with a copy's block retired, by what is told of a target
+abbrev pub answerBy : ToldPlan → RegionBlock → TargetAnswer → PlanAnswer
+answerBy told b (Found x) =
+    Planned (record { chip = told .chip; version = told .version; retired = Block b; shape = movedShape (told .shape) b x })
+answerBy told b Missing = NotPlanned NoTarget
+answerBy told b (Refused r) = NotPlanned r
+
+-- the target beside a copy's blocks and those flagged
+abbrev pub targetBeside : ℕ → ℕ → List ℕ → List ℕ → List Bool → Copy → TargetAnswer
+targetBeside n size image status gone copy = lentTarget n size image status (set (set gone (copy .block .0) true) (copy .other .0) true)
+
+-- the plan with that copy at that target
+abbrev pub copyRetired : ℕ → ℕ → List ℕ → List ℕ → List Bool → ToldPlan → Copy → PlanAnswer
+copyRetired n size image status gone told copy = answerBy told (copy .block) (targetBeside n size image status gone copy)
+
+-- the plan once a step has failed under it: an erase or a write retires its block, a zero step is refusal 12, past the end is 2
+abbrev pub stepRetired : ℕ → ℕ → List ℕ → List ℕ → List Bool → ToldPlan → ToldStep → PlanAnswer
+stepRetired n size image status gone told (Erase c) = copyRetired n size image status gone told (copyAt (told .chip) (told .shape) c)
+stepRetired n size image status gone told (Write c p k) = copyRetired n size image status gone told (copyAt (told .chip) (told .shape) c)
+stepRetired n size image status gone told (Zero c) = NotPlanned ZeroFailed
+stepRetired n size image status gone told Past = NotPlanned Range
+
+-- on with a plan; a refusal is passed on
+abbrev pub onPlan : (ToldPlan → PlanAnswer) → PlanAnswer → PlanAnswer
+onPlan f (Planned q) = f q
+onPlan f (NotPlanned r) = NotPlanned r
+
+-- the steps of these numbers, oldest first, each in the plan as it stood after the failures before it
+unfoldable pub stepsRetired : ℕ → ℕ → List ℕ → List ℕ → List Bool → ToldPlan → List ℕ → PlanAnswer
+stepsRetired n size image status gone told [] = Planned told
+stepsRetired n size image status gone told (k ∷ ks) =
+    onPlan (λ next. stepsRetired n size image status (alsoRetired gone (next .retired)) next ks)
+    (stepRetired n size image status gone told (nthStep (toldSteps told) k))
+
+-- from what was planned first, under which no block has failed
+unfoldable pub allRetired : ℕ → ℕ → List ℕ → List ℕ → PlanAnswer → List ℕ → PlanAnswer
+allRetired n size image status told failed = onPlan (λ first. stepsRetired n size image status (replicate 7 false) first failed) told
+
 -- ---- that it is the rules'
 -- the image and status bytes are a region's of the chip of N and its size
 pub record Lends (n size : ℕ) (chip : LargeChip) (image status : List ℕ) : Type 0 where
@@ -51,31 +94,13 @@ pub record Lends (n size : ℕ) (chip : LargeChip) (image status : List ℕ) : T
   pub region-right : regionLent chip image status ≡ true
   pub statuses-right : statusesRight status ≡ true
 
--- block b is one of those that a plan writes a copy to
-abbrev pub WritesTo : Job → ℕ → Type 0
-WritesTo (idle v) b = ⊥
-WritesTo (single k c g t) b = b ≡ c
-WritesTo (double p m t) b = (b ≡ p) ⊎ (b ≡ m)
-
--- r is what is planned once the block told as c has failed under the plan told, beside the blocks flagged
-abbrev pub BlockRetired : ℕ → ℕ → List ℕ → List ℕ → List Bool → ToldPlan → ChipBlock → PlanAnswer → Type 0
-BlockRetired n size image status gone told c r =
-    (chip : LargeChip) (q : Plan) (b : ℕ) → Lends n size chip image status → told ≡ toldPlan chip q → Flags gone (q .failed) → WritesTo (q .job) b
-    → c ≡ chipBlock chip b → r ≡ toldAnswer chip (blockFails chip (seen chip image status) q b)
-
--- once its step k has
-abbrev pub StepRetired : ℕ → ℕ → List ℕ → List ℕ → List Bool → ToldPlan → ℕ → PlanAnswer → Type 0
-StepRetired n size image status gone told k r =
-    (chip : LargeChip) (q : Plan) → Lends n size chip image status → told ≡ toldPlan chip q → Flags gone (q .failed)
-    → r ≡ toldAnswer chip (failure chip (seen chip image status) (plan q) k)
-
 -- no block has failed yet
 abbrev pub First : Answer → Type 0
 First (refuse r) = Unit {0}
 First (plan q) = q .failed ≡ []
 
--- once these steps of what was planned first have
-abbrev pub AllRetired : ℕ → ℕ → List ℕ → List ℕ → PlanAnswer → List ℕ → PlanAnswer → Type 0
-AllRetired n size image status told failed r =
-    (chip : LargeChip) (a : Answer) → Lends n size chip image status → First a → told ≡ toldAnswer chip a
-    → r ≡ toldAnswer chip (failures chip (seen chip image status) a failed)
+-- what is told of a first plan becomes what is told of the plan that the rules make of it
+abbrev pub RetiresByRules : Type 0
+RetiresByRules =
+    (n size : ℕ) (chip : LargeChip) (image status : List ℕ) (a : Answer) (failed : List ℕ) → Lends n size chip image status → First a
+    → allRetired n size image status (toldAnswer chip a) failed ≡ toldAnswer chip (failures chip (seen chip image status) a failed)

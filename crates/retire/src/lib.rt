@@ -1,7 +1,10 @@
 // Plans after failed steps. The chip reports that an erase or a write has failed: its block is retired, by zeros to the OOB bytes of its first
 // page, and its copy goes to another block. The plan is told from the first one and the numbers of the failed steps, oldest first.
+ghost use mathlib.Core.Bool.{false};
 ghost use mathlib.Core.Path.{_≡_};
-ghost use Rattle.retire.specs.Retiring.{copyAt, movedShape, alsoRetired, BlockRetired, StepRetired, AllRetired};
+ghost use lib.ListN.{replicate};
+ghost use Rattle.bbt.specs.Told.{toldSteps, nthStep};
+ghost use Rattle.retire.specs.Retiring.{copyAt, movedShape, alsoRetired, copyRetired, stepRetired, stepsRetired, allRetired};
 use bbt::Kind;
 use bbt::Plan;
 use bbt::PlanAnswer;
@@ -75,7 +78,7 @@ fn retire(
     plan: Plan,
     c: ChipBlock,
 ) -> PlanAnswer
-    ensures { λ r. ⌜ BlockRetired n size (now (image .entry)) (now (status .entry)) gone plan c r ⌝ }
+    ensures { λ r. ⌜ r ≡ copyRetired n size (now (image .entry)) (now (status .entry)) gone plan (copyAt (plan .chip) (plan .shape) c) ⌝ }
 {
     let chip = plan.chip;
     let version = plan.version;
@@ -105,7 +108,7 @@ fn fail(
     plan: Plan,
     k: u64,
 ) -> PlanAnswer
-    ensures { λ r. ⌜ StepRetired n size (now (image .entry)) (now (status .entry)) gone plan k r ⌝ }
+    ensures { λ r. ⌜ r ≡ stepRetired n size (now (image .entry)) (now (status .entry)) gone plan (nthStep (toldSteps plan) k) ⌝ }
 {
     match plan.step(k) {
         Step::Erase(c) => retire(n, size, image, status, gone, plan, c),
@@ -137,7 +140,7 @@ fn after_steps(
     first: Plan,
     failed: &[u8],
 ) -> PlanAnswer
-    ensures { λ r. ⌜ AllRetired n size (now (image .entry)) (now (status .entry)) (PlanAnswer.Planned first) (now (failed .entry)) r ⌝ }
+    ensures { λ r. ⌜ r ≡ stepsRetired n size (now (image .entry)) (now (status .entry)) (replicate 7 false) first (now (failed .entry)) ⌝ }
 {
     let mut plan = first;
     let mut gone = [false; LargeChip::REGION_PLACES];
@@ -168,7 +171,7 @@ pub fn after_failures(
     answer: PlanAnswer,
     failed: &[u8],
 ) -> PlanAnswer
-    ensures { λ r. ⌜ AllRetired n size (now (image .entry)) (now (status .entry)) answer (now (failed .entry)) r ⌝ }
+    ensures { λ r. ⌜ r ≡ allRetired n size (now (image .entry)) (now (status .entry)) answer (now (failed .entry)) ⌝ }
 {
     match answer {
         PlanAnswer::Refused(r) => PlanAnswer::Refused(r),

@@ -1,110 +1,50 @@
--- `page_of` meets its contract: the told step of the plan decides, and a write's page is made from its part of the work's bitmap.
+-- `page_of` meets its contract: what was told of the plan decides, and without a failed step that is the first plan.
 -- Assumes nothing.
-use mathlib.Core.Path.{refl, _∙_, sym}
 use borrow.Author.Needs.{needs}
 use Rattle.plan.proofs.Asking.{by-same}
-use Rattle.plan.proofs.Imaging.{refused-image, after-planned}
-use Rattle.plan.proofs.Paging.{first-image}
+use Rattle.plan.proofs.Imaging.{first-told, after-told}
 use Rattle.plan.proofs.page_of.Statement.{statement}
 use Rattle.plan.proofs.page_of.Tie as tie
 
-plan-after-requires : tie.Need-plan-after-requires
-plan-after-requires c κs = search needs
+plan-of-requires : tie.Need-plan-of-requires
+plan-of-requires c κs = search needs
 
-enum-known-r : tie.Need-enum-known-r
-enum-known-r c = search needs
-
-enum-known-plan : tie.Need-enum-known-plan
-enum-known-plan c = search needs
-
-step-requires : tie.Need-step-requires
-step-requires c κs = search needs
-
-enum-told : tie.Need-enum-told
-enum-told c = search needs
-
-enum-told-2 : tie.Need-enum-told-2
-enum-told-2 c = search needs
-
-enum-told-3 : tie.Need-enum-told-3
-enum-told-3 c = search needs
-
-enum-known-p : tie.Need-enum-known-p
-enum-known-p c = search needs
-
-slice-aggregate-new-part : tie.Need-slice-aggregate-new-part
-slice-aggregate-new-part c = search needs
-
-new-part-requires : tie.Need-new-part-requires
-new-part-requires c κs = search needs
-
-sub-page-image : tie.Need-sub-page-image
-sub-page-image c = search needs
-
-part-page-image-start : tie.Need-part-page-image-start
-part-page-image-start c = search needs
-
-part-page-image-end : tie.Need-part-page-image-end
-part-page-image-end c = search needs
-
-page-image-requires : tie.Need-page-image-requires
-page-image-requires c κs = search needs
-
-returns : tie.Need-returns
-returns c =
-    let a = c .before .before .before .before .before .before .before .before .before .args in
-    by-same (a .page .now) (refl, refl) (refused-image (a .chip) (a .step) _ _ (sym (c .before .before .before .plan-after .ensures) ∙ c .before .r .given .1))
-
-returns-2 : tie.Need-returns-2
-returns-2 c =
-    let a = c .before .before .before .before .before .before .before .before .before .before .before .before .args in
-    let e = after-planned (a .chip) (a .image .now) (a .wanted .now) _ (a .work) (a .failed .now) (a .step) _ (sym (c .before .before .before .before .before .before .plan-after .ensures) ∙ c .before .before .before .before .plan .given .1) _ (sym (c .enum-told .given .1) ∙ c .before .before .step .ensures) in
-    by-same (a .page .now) (refl, refl) e
-
-returns-3 : tie.Need-returns-3
-returns-3 c =
-    let a = c .before .before .before .before .before .before .before .before .before .before .before .before .args in
-    let e = after-planned (a .chip) (a .image .now) (a .wanted .now) _ (a .work) (a .failed .now) (a .step) _ (sym (c .before .before .before .before .before .before .plan-after .ensures) ∙ c .before .before .before .before .plan .given .1) _ (sym (c .enum-told2 .given .1) ∙ c .before .before .step .ensures) in
-    by-same (a .page .now) (refl, refl) e
-
-returns-4 : tie.Need-returns-4
-returns-4 c =
-    let a = c .before .before .before .before .before .before .before .before .before .before .before .before .args in
-    let e = after-planned (a .chip) (a .image .now) (a .wanted .now) _ (a .work) (a .failed .now) (a .step) _ (sym (c .before .before .before .before .before .before .plan-after .ensures) ∙ c .before .before .before .before .plan .given .1) _ (sym (c .enum-told3 .given .1) ∙ c .before .before .step .ensures) in
-    by-same (a .page .now) (refl, refl) e
+page-by-requires : tie.Need-page-by-requires
+page-by-requires c κs = let pre = c .before .before .before .before .before .before .before .before .pre in (pre .0, pre .2)
 
 same-length : tie.Need-same-length
 same-length c = search needs
 
-returns-5 : tie.Need-returns-5
-returns-5 c =
-    let a = c .before .before .before .before .before .before .before .before .before .before .before .before .before .before .before .before .before .before .before .before .before .before .args in
-    let e = after-planned (a .chip) (a .image .now) (a .wanted .now) _ (a .work) (a .failed .now) (a .step) _ (sym (c .before .before .before .before .before .before .before .before .before .before .before .before .before .before .before .before .plan-after .ensures) ∙ c .before .before .before .before .before .before .before .before .before .before .before .before .before .before .plan .given .1) _ (sym (c .before .before .before .before .before .before .before .before .before .before .p .given .1) ∙ c .before .before .before .before .before .before .before .before .before .before .before .before .step .ensures) in
-    let made = c .before .before .before .before .before .before .before .new-part .ensures in
-    let put = first-image _ _ _ _ _ (a .page .now) (c .before .before .before .before .before .before .before .before .before .before .before .before .before .before .before .before .before .before .before .before .before .before .pre .2) (made .0) (made .1) in
-    by-same (a .page .now) (refl, c .before .before .page-image .ensures ∙ put) e
+returns : tie.Need-returns
+returns c =
+    let a = c .before .before .before .before .before .before .before .before .before .before .before .args in
+    let first = first-told (a .chip) (a .image .now) (a .wanted .now) _ (a .work) (a .failed .now) (a .step) _ (c .before .before .before .before .before .if1 .taken) (c .before .before .before .before .plan-of .ensures) in
+    by-same (a .page .now) (c .before .before .page-by .ensures) first
+
+plan-after-requires : tie.Need-plan-after-requires
+plan-after-requires c κs = let pre = c .before .before .before .before .before .before .pre in (pre .0, pre .1)
+
+page-by-requires-2 : tie.Need-page-by-requires-2
+page-by-requires-2 c κs = let pre = c .before .before .before .before .before .before .before .before .pre in (pre .0, pre .2)
+
+same-length-2 : tie.Need-same-length-2
+same-length-2 c = search needs
+
+returns-2 : tie.Need-returns-2
+returns-2 c =
+    let a = c .before .before .before .before .before .before .before .before .before .before .before .args in
+    let after = after-told (a .chip) (a .image .now) (a .wanted .now) _ (a .work) (a .failed .now) (a .step) _ (c .before .before .before .before .plan-after .ensures) in
+    by-same (a .page .now) (c .before .before .page-by2 .ensures) after
 
 pub page-of-spec : {M : Type 1} → statement M
 page-of-spec =
     tie.close
     (tie.spec
-    plan-after-requires
-    enum-known-r
-    enum-known-plan
-    step-requires
-    enum-told
-    enum-told-2
-    enum-told-3
-    enum-known-p
-    slice-aggregate-new-part
-    new-part-requires
-    sub-page-image
-    part-page-image-start
-    part-page-image-end
-    page-image-requires
-    returns
-    returns-2
-    returns-3
-    returns-4
+    plan-of-requires
+    page-by-requires
     same-length
-    returns-5)
+    returns
+    plan-after-requires
+    page-by-requires-2
+    same-length-2
+    returns-2)

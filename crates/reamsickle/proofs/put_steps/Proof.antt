@@ -1,112 +1,53 @@
--- `put_steps` meets its contract: the steps before k stand in the first 4k bytes, the others are as they were.
+-- `put_steps` meets its contract: the zero step where there is one, and the others behind it.
 -- Assumes nothing.
-use mathlib.Core.List.{List}
-use mathlib.Core.Path.{_≡_, refl, sym, ap, _∙_}
-use Prim.Native.Nat.{ℕ, _+_, _*_, _-_, _<_, _≤_}
+use mathlib.Core.Path.{_∙_}
+use Prim.Native.Nat.{_-_}
 use native.Mathlib.Omega.{arith}
 use borrow.Author.Needs.{needs}
-use borrow.Rule.Slice.PartMut.{putMid, midOf, same-len-mid}
-use lib.ListN.{length, take}
-use lib.Seq.{take-all}
-use Rattle.bbt.specs.Told.{toldSteps}
-use Rattle.bbt.specs.declared.Step.{Step}
-use Rattle.bits.specs.Bytes.{copied}
-use Rattle.reamsickle.specs.LargeBoundary.{stepBytes, stepsPut}
-use Rattle.reamsickle.proofs.Steps.{put-none, put-next}
+use borrow.Rule.Slice.PartMut.{same-len-mid}
+use lib.ListN.{length}
+use Rattle.reamsickle.proofs.Steps.{room-behind, put-behind}
 use Rattle.reamsickle.proofs.put_steps.Statement.{statement}
 use Rattle.reamsickle.proofs.put_steps.Tie as tie
 
-abbrev Inv-loop : tie.InvT-loop
-Inv-loop plan steps₀ total k₀ steps k = (k ≤ total) × (length steps ≡ length steps₀) × (steps ≡ stepsPut (take k (toldSteps plan)) steps₀)
+put-zero-requires : tie.Need-put-zero-requires
+put-zero-requires c κs = c .before .before .before .pre .1
 
-abbrev μ-loop : tie.MeasureT-loop
-μ-loop plan steps₀ total k₀ steps k = total - k
+sub-put-shape : tie.Need-sub-put-shape
+sub-put-shape c =
+    let a = c .before .before .before .before .before .before .args in
+    let zero = c .before .before .put-zero in
+    omega (arith, room-behind (a .plan) (a .steps .now) (zero .last .1 .1 .0) (zero .result) (c .before .before .before .before .before .before .pre .0) (zero .kept .1 .1 .0) (zero .ensures .0) .0)
 
-step-count-requires : tie.Need-step-count-requires Inv-loop μ-loop
-step-count-requires c κs = search needs
+part-put-shape-start : tie.Need-part-put-shape-start
+part-put-shape-start c =
+    let a = c .before .before .before .before .before .before .args in
+    let zero = c .before .before .put-zero in
+    omega (arith, room-behind (a .plan) (a .steps .now) (zero .last .1 .1 .0) (zero .result) (c .before .before .before .before .before .before .pre .0) (zero .kept .1 .1 .0) (zero .ensures .0) .0)
 
-cast-total : tie.Need-cast-total Inv-loop μ-loop
-cast-total c = search needs
+part-put-shape-end : tie.Need-part-put-shape-end
+part-put-shape-end c = search needs
 
-loop-holds : tie.Need-loop-holds Inv-loop μ-loop
-loop-holds c = (omega arith, refl, sym (put-none (toldSteps (c .before .before .args .plan)) (c .before .before .args .steps .now)))
+put-shape-requires : tie.Need-put-shape-requires
+put-shape-requires c κs =
+    let a = c .before .before .before .before .before .before .before .args in
+    let zero = c .before .before .before .put-zero in
+    room-behind (a .plan) (a .steps .now) (zero .last .1 .1 .0) (zero .result) (c .before .before .before .before .before .before .before .pre .0) (zero .kept .1 .1 .0) (zero .ensures .0) .1
 
-step-requires : tie.Need-step-requires Inv-loop μ-loop
-step-requires c κs = search needs
+same-length : tie.Need-same-length
+same-length c =
+    let zero = c .before .before .before .before .before .before .put-zero in
+    let put = c .before .before .put-shape in
+    same-len-mid (zero .result) (length (zero .last .1 .1 .0) - zero .result) (zero .last .1 .1 .0) (put .last .1 .1 .0) (put .kept .1 .1 .0) ∙ zero .kept .1 .1 .0
 
-step-bytes-requires : tie.Need-step-bytes-requires Inv-loop μ-loop
-step-bytes-requires c κs = search needs
-
-mul-at : tie.Need-mul-at Inv-loop μ-loop
-mul-at c = omega (arith, c .before .before .before .before .step-count .ensures, c .before .before .before .before .before .before .pre)
-
-add-end : tie.Need-add-end Inv-loop μ-loop
-add-end c = omega (arith, c .before .before .before .before .step-count .ensures, c .before .before .before .before .before .before .pre)
-
-slice-aggregate-copy : tie.Need-slice-aggregate-copy Inv-loop μ-loop
-slice-aggregate-copy c = search needs
-
-sub-copy : tie.Need-sub-copy Inv-loop μ-loop
-sub-copy c = omega arith
-
-part-copy-start : tie.Need-part-copy-start Inv-loop μ-loop
-part-copy-start c = search needs
-
-part-copy-end : tie.Need-part-copy-end Inv-loop μ-loop
-part-copy-end c = omega (arith, c .before .before .before .before .before .step-count .ensures, c .before .before .before .before .before .before .before .pre)
-
-copy-requires : tie.Need-copy-requires Inv-loop μ-loop
-copy-requires c κs = search needs
-
-add-k : tie.Need-add-k Inv-loop μ-loop
-add-k c = omega (arith, c .before .before .before .before .before .before .before .before .before .step-count .ensures, c .before .before .before .before .before .before .before .before .before .before .before .pre)
-
-loop-less : tie.Need-loop-less Inv-loop μ-loop
-loop-less c = omega arith
-
-loop-again : tie.Need-loop-again Inv-loop μ-loop
-loop-again c =
-    let es = toldSteps (c .before .before .before .before .before .before .before .before .before .before .before .args .plan) in
-    let loop = c .before .before .before .before .before .before .before .before .loop in
-    let k = loop .k in
-    let here : k < length es = omega (arith, c .before .before .before .before .before .before .before .before .before .step-count .ensures) in
-    let inside : 4 * k + 4 ≤ length (loop .steps) = omega (arith, c .before .before .before .before .before .before .before .before .before .before .before .pre, loop .inv .1) in
-    let four = c .before .before .before .before .before .step-bytes .ensures ∙ ap stepBytes (c .before .before .before .before .before .before .step .ensures) in (
-      omega arith,
-      same-len-mid (4 * k) (4 * k + 4 - 4 * k) (loop .steps) (c .before .before .copy .last .1 .0) (c .before .before .copy .kept .1 .0) ∙ loop .inv .1,
-      ap (putMid (4 * k) (4 * k + 4 - 4 * k) (loop .steps)) (c .before .before .copy .ensures ∙ ap (λ (x : List ℕ). copied x (midOf (4 * k) (4 * k + 4 - 4 * k) (loop .steps))) four)
-          ∙ put-next es (c .before .before .before .before .before .before .before .before .before .before .before .args .steps .now) k (loop .steps) here inside (loop .inv .2),
-    )
-
-same-length : tie.Need-same-length Inv-loop μ-loop
-same-length c = c .before .loop .inv .1
-
-returns : tie.Need-returns Inv-loop μ-loop
+returns : tie.Need-returns
 returns c =
-    let es = toldSteps (c .before .before .before .before .args .plan) in
-    let loop = c .before .loop in
-    loop .inv .2 ∙ ap (λ (s : List Step). stepsPut s (c .before .before .before .before .args .steps .now)) (take-all (loop .k) es (omega (arith, c .before .before .step-count .ensures)))
+    let a = c .before .before .before .before .before .before .before .before .before .before .args in
+    let zero = c .before .before .before .before .before .before .put-zero in
+    let fits = room-behind (a .plan) (a .steps .now) (zero .last .1 .1 .0) (zero .result) (c .before .before .before .before .before .before .before .before .before .before .pre .0) (zero .kept .1 .1 .0) (zero .ensures .0) in
+    put-behind (a .plan) (a .steps .now) _ _ _ (fits .0) (zero .ensures .0) (zero .ensures .1) (c .before .before .put-shape .ensures)
 
 pub put-steps-spec : {M : Type 1} → statement M
 put-steps-spec =
     tie.close
-    (tie.spec
-    Inv-loop
-    μ-loop
-    step-count-requires
-    cast-total
-    loop-holds
-    step-requires
-    step-bytes-requires
-    mul-at
-    add-end
-    slice-aggregate-copy
-    sub-copy
-    part-copy-start
-    part-copy-end
-    copy-requires
-    add-k
-    loop-less
-    loop-again
-    same-length
-    returns)
+    (tie.spec put-zero-requires sub-put-shape part-put-shape-start part-put-shape-end put-shape-requires same-length returns)

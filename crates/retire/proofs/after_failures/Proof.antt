@@ -1,6 +1,6 @@
 -- `after_failures` meets its contract: a refusal is passed on, and a plan is what `after_steps` makes of it.
 -- Assumes nothing.
-use Rattle.retire.proofs.Failing.{refused-all}
+use Rattle.retire.specs.Retiring.{allRetired}
 use borrow.Author.Needs.{needs}
 use Rattle.retire.proofs.after_failures.Statement.{statement}
 use Rattle.retire.proofs.after_failures.Tie as tie
@@ -15,12 +15,12 @@ after-steps-requires : tie.Need-after-steps-requires
 after-steps-requires c κs = search needs
 
 returns : tie.Need-returns
-returns c =
-    let a = c .before .before .before .before .before .before .args in
-    rw (c .before .answer .given .1) (refused-all (a .n) (a .size) (a .image .now) (a .status .now) _ (a .failed .now))
+unfolding allRetired
+returns c = simp (c .before .answer .given .1)
 
 returns-2 : tie.Need-returns-2
-returns-2 c = rw (c .before .before .answer2 .given .1) (c .after-steps .ensures)
+unfolding allRetired
+returns-2 c = simp (c .before .before .answer2 .given .1) (c .after-steps .ensures)
 
 pub after-failures-spec : {M : Type 1} → statement M
 after-failures-spec =

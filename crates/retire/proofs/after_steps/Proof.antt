@@ -1,16 +1,13 @@
--- `after_steps` meets its contract. The loop's invariant: what is right for the steps that are left, under the plan and beside the flags as they
--- stand, is right for all of them. The measure is how many are left.
+-- `after_steps` meets its contract. The loop's invariant: the steps that are left, under the plan and beside the flags as they stand, make of it
+-- what all of them make of the first. The measure is how many are left.
 -- Assumes nothing.
-use mathlib.Core.Path.{_≡_, refl}
+use mathlib.Core.Bool.{false}
+use mathlib.Core.Path.{_≡_, refl, sym, _∙_}
 use Prim.Native.Nat.{_<_, _≤_, _-_}
-use native.Mathlib.Numerals.{add-one}
 use native.Mathlib.Omega.{arith}
-use lib.ListN.{length, drop, drop-of-length-le}
-use lib.Seq.{drop-cons}
-use Rattle.bbt.specs.declared.PlanAnswer.{PlanAnswer}
-use Rattle.bbt.specs.declared.PlanAnswer.the-variants.{Planned}
-use Rattle.retire.specs.Retiring.{AllRetired}
-use Rattle.retire.proofs.Failing.{RestRetired, rest-none, rest-refused, rest-next, rest-all}
+use lib.ListN.{length, drop, replicate}
+use Rattle.retire.specs.Retiring.{stepsRetired}
+use Rattle.retire.proofs.Telling.{next-step, none-left}
 use borrow.Author.Needs.{needs}
 use Rattle.retire.proofs.after_steps.Statement.{statement}
 use Rattle.retire.proofs.after_steps.Tie as tie
@@ -18,16 +15,13 @@ use Rattle.retire.proofs.after_steps.Tie as tie
 abbrev Inv-loop : tie.InvT-loop
 Inv-loop n size image status failed plan₀ gone₀ i₀ plan gone i =
     (i ≤ length failed)
-    × (length gone ≡ 7)
-    × ((r : PlanAnswer) → RestRetired n size image status gone plan (drop i failed) r → AllRetired n size image status (Planned plan₀) failed r)
+    × (stepsRetired n size image status gone plan (drop i failed) ≡ stepsRetired n size image status (replicate 7 false) plan₀ failed)
 
 abbrev μ-loop : tie.MeasureT-loop
 μ-loop n size image status failed plan₀ gone₀ i₀ plan gone i = length failed - i
 
 loop-holds : tie.Need-loop-holds Inv-loop μ-loop
-loop-holds c =
-    let a = c .before .before .before .args in
-    (search needs, refl, rest-all (a .n) (a .size) (a .image .now) (a .status .now) (a .first) (a .failed .now))
+loop-holds c = (search needs, refl)
 
 shared-slice-read-fail : tie.Need-shared-slice-read-fail Inv-loop μ-loop
 shared-slice-read-fail c = search needs
@@ -46,10 +40,8 @@ returns c =
     let a = c .before .before .before .before .before .before .before .before .before .before .args in
     let l = c .before .before .before .before .before .before .loop in
     let h : l .i < length (a .failed .now) = search needs in
-    l .inv .2 _
-    (rw (drop-cons (a .failed .now) (l .i) 0)
-    (rest-refused (a .n) (a .size) (a .image .now) (a .status .now) (l .gone) (l .plan) _ _ _
-    (rw (c .before .r .given .1) at (c .before .before .before .fail .ensures))))
+    sym (next-step (a .n) (a .size) (a .image .now) (a .status .now) (l .gone) (l .plan) (a .failed .now) (l .i) _ _ h (c .before .before .before .fail .ensures) (c .before .r .given .1))
+    ∙ l .inv .1
 
 enum-known-next : tie.Need-enum-known-next Inv-loop μ-loop
 enum-known-next c = search needs
@@ -67,22 +59,15 @@ loop-again : tie.Need-loop-again Inv-loop μ-loop
 loop-again c =
     let a = c .before .before .before .before .before .before .before .before .before .before .before .args in
     let l = c .before .before .before .before .before .before .before .loop in
-    let h : l .i < length (a .failed .now) = search needs in (
-      omega arith,
-      search needs,
-      λ r left. l .inv .2 r
-          (rw (drop-cons (a .failed .now) (l .i) 0)
-          (rest-next (a .n) (a .size) (a .image .now) (a .status .now) (l .gone) (l .plan) _ _ _ r (l .inv .1)
-          (rw (c .before .before .next .given .1) at (c .before .before .before .before .fail .ensures))
-          (rw (c .with-retired .ensures, add-one) at left))),
-    )
+    let h : l .i < length (a .failed .now) = search needs in
+    let next = next-step (a .n) (a .size) (a .image .now) (a .status .now) (l .gone) (l .plan) (a .failed .now) (l .i) _ _ h (c .before .before .before .before .fail .ensures) (c .before .before .next .given .1) in
+    (omega arith, rw (c .with-retired .ensures) (sym next ∙ l .inv .1))
 
 returns-2 : tie.Need-returns-2 Inv-loop μ-loop
 returns-2 c =
     let a = c .before .before .before .before .before .args in
     let l = c .before .loop in
-    let past : length (a .failed .now) ≤ l .i = search needs in
-    l .inv .2 _ (rw (drop-of-length-le (a .failed .now) past) (rest-none (a .n) (a .size) (a .image .now) (a .status .now) (l .gone) (l .plan)))
+    sym (none-left (a .n) (a .size) (a .image .now) (a .status .now) (l .gone) (l .plan) (a .failed .now) (l .i) (search needs)) ∙ l .inv .1
 
 pub after-steps-spec : {M : Type 1} → statement M
 after-steps-spec =

@@ -1,8 +1,7 @@
--- `fail` meets its contract: it answers by the told step, which is the plan's step of that number.
+-- `fail` meets its contract: it answers by the told step of that number.
 -- Assumes nothing.
-use mathlib.Core.Path.{refl, sym, _∙_}
-use Rattle.bbt.specs.declared.Step.the-variants.{Erase, Write, Zero, Past}
-use Rattle.retire.proofs.Failing.{step-retired}
+use mathlib.Core.Path.{sym, ap, _∙_}
+use Rattle.retire.specs.Retiring.{stepRetired}
 use borrow.Author.Needs.{needs}
 use Rattle.retire.proofs.fail.Statement.{statement}
 use Rattle.retire.proofs.fail.Tie as tie
@@ -31,30 +30,22 @@ enum-told-2 c = search needs
 returns : tie.Need-returns
 returns c =
     let a = c .before .before .before .before .before .before .before .args in
-    step-retired (a .n) (a .size) (a .image .now) (a .status .now) (a .gone) (a .plan) (a .k) (Erase _) _
-    (sym (c .before .before .c .given .1) ∙ c .before .before .before .before .step .ensures)
-    (c .retire .ensures)
+    c .retire .ensures ∙ ap (stepRetired (a .n) (a .size) (a .image .now) (a .status .now) (a .gone) (a .plan)) (sym (c .before .before .c .given .1) ∙ c .before .before .before .before .step .ensures)
 
 returns-2 : tie.Need-returns-2
 returns-2 c =
     let a = c .before .before .before .before .before .before .before .args in
-    step-retired (a .n) (a .size) (a .image .now) (a .status .now) (a .gone) (a .plan) (a .k) (Write _ _ _) _
-    (sym (c .before .before .c2 .given .1) ∙ c .before .before .before .before .step .ensures)
-    (c .retire2 .ensures)
+    c .retire2 .ensures ∙ ap (stepRetired (a .n) (a .size) (a .image .now) (a .status .now) (a .gone) (a .plan)) (sym (c .before .before .c2 .given .1) ∙ c .before .before .before .before .step .ensures)
 
 returns-3 : tie.Need-returns-3
 returns-3 c =
     let a = c .before .before .before .before .before .args in
-    step-retired (a .n) (a .size) (a .image .now) (a .status .now) (a .gone) (a .plan) (a .k) (Zero _) _
-    (sym (c .enum-told .given .1) ∙ c .before .before .step .ensures)
-    refl
+    ap (stepRetired (a .n) (a .size) (a .image .now) (a .status .now) (a .gone) (a .plan)) (sym (c .enum-told .given .1) ∙ c .before .before .step .ensures)
 
 returns-4 : tie.Need-returns-4
 returns-4 c =
     let a = c .before .before .before .before .before .args in
-    step-retired (a .n) (a .size) (a .image .now) (a .status .now) (a .gone) (a .plan) (a .k) Past _
-    (sym (c .enum-told2 .given .1) ∙ c .before .before .step .ensures)
-    refl
+    ap (stepRetired (a .n) (a .size) (a .image .now) (a .status .now) (a .gone) (a .plan)) (sym (c .enum-told2 .given .1) ∙ c .before .before .step .ensures)
 
 pub fail-spec : {M : Type 1} → statement M
 fail-spec =

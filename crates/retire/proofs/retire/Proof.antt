@@ -1,8 +1,8 @@
--- `retire` meets its contract: its copy, its flags and its target are those that `block-retired` asks for, and it answers by the target.
+-- `retire` meets its contract: its copy, its flags and its target are those of `copyRetired`, and it answers by the target.
 -- Assumes nothing.
 use mathlib.Core.Path.{sym, _∙_}
 use Rattle.region.specs.declared.TargetAnswer.the-variants.{Found, Missing, Refused}
-use Rattle.retire.proofs.Failing.{block-retired}
+use Rattle.retire.proofs.Telling.{as-told}
 use borrow.Author.Needs.{needs}
 use Rattle.retire.proofs.retire.Statement.{statement}
 use Rattle.retire.proofs.retire.Tie as tie
@@ -34,7 +34,7 @@ moved-requires c κs = search needs
 returns : tie.Need-returns
 returns c =
     let a = c .before .before .before .before .before .before .before .before .before .before .before .args in
-    block-retired (a .n) (a .size) (a .image .now) (a .status .now) (a .gone) (a .plan) (a .c) _ _ _ (Refused _) (search needs)
+    as-told (a .n) (a .size) (a .image .now) (a .status .now) (a .gone) (a .plan) (a .c) _ _ _ (Refused _)
     (c .before .before .before .before .before .before .before .copy-at .ensures)
     (c .before .before .before .before .before .avoiding .ensures)
     (c .before .before .before .before .avoiding2 .ensures)
@@ -43,7 +43,7 @@ returns c =
 returns-2 : tie.Need-returns-2
 returns-2 c =
     let a = c .before .before .before .before .before .before .before .before .before .before .args in
-    block-retired (a .n) (a .size) (a .image .now) (a .status .now) (a .gone) (a .plan) (a .c) _ _ _ Missing (search needs)
+    as-told (a .n) (a .size) (a .image .now) (a .status .now) (a .gone) (a .plan) (a .c) _ _ _ Missing
     (c .before .before .before .before .before .before .copy-at .ensures)
     (c .before .before .before .before .avoiding .ensures)
     (c .before .before .before .avoiding2 .ensures)
@@ -53,8 +53,7 @@ returns-3 : tie.Need-returns-3
 returns-3 c =
     let a = c .before .before .before .before .before .before .before .before .before .before .before .before .args in
     rw (c .moved .ensures)
-    (block-retired (a .n) (a .size) (a .image .now) (a .status .now) (a .gone) (a .plan) (a .c) _ _ _ (Found _)
-    (search (needs, c .before .before .before .before .before .before .before .before .before .before .before .before .good .1 .1 .1 .1 .0))
+    (as-told (a .n) (a .size) (a .image .now) (a .status .now) (a .gone) (a .plan) (a .c) _ _ _ (Found _)
     (c .before .before .before .before .before .before .before .before .copy-at .ensures)
     (c .before .before .before .before .before .before .avoiding .ensures)
     (c .before .before .before .before .before .avoiding2 .ensures)
