@@ -12,9 +12,9 @@
  *	lengths			a byte: below 192 all are as named, otherwise that of one buffer is not, counted
  *				modulo the buffers; a byte below 128 then adds -64 to 63, otherwise it is the
  *				next eight bytes
- *	what is lent		a spare to read, alone or with its data: lend_page(); region and wanted:
- *				build_region(), with the second table as wanted, and failed steps: lend_failed();
- *				others: take_bytes() each
+ *	what is lent		a spare to read, alone or with its data: lend_page(); the spares of blocks:
+ *				build_blocks(); region and wanted: build_region(), with the second table as wanted,
+ *				and failed steps: lend_failed(); others: take_bytes() each
  *
  * The library is not instrumented: it is native code as the prover made it. So coverage is that of the
  * reference, which takes each case of document 01 apart as the library has to, and memory that the library
@@ -28,6 +28,7 @@
 
 #include "calls.h"
 #include "reference.h"
+#include "blocks.h"
 #include "build.h"
 #include "fence.h"
 #include "input.h"
@@ -53,6 +54,9 @@ static const uint64_t paths[] = { 0, 1, 6, REAM_PATH_MAX, REAM_PATH_MAX + 1 };
 static const uint64_t counts[] = { 0, 1, REAM_COUNT_MAX, REAM_COUNT_MAX + 1 };
 static const uint64_t blocks[] = { 8, 12, 1024, 8192, 8196, 16388, 24576, 32764, 32768, 4, 10, 32772, 16 };
 static const uint64_t sizes[] = { 4, 5, 6, 7, 3, 8, 0, ((uint64_t)1 << 32) + 4 };
+static const uint64_t small_blocks[] = {
+	8, 0, 1, 2, 3, 4, 5, 16, 40, 1023, 1024, 1025, 65536 + 8, ((uint64_t)1 << 32) + 8,
+};
 static const uint64_t steps[] = { 0, 1, 2, 3, 4, 5, 6, 7, 8, 9, 10, 11 };
 
 #define NUMBERS(of) of, sizeof(of) / sizeof(of[0])
@@ -68,6 +72,7 @@ static const struct {
 	{ "n", NUMBERS(blocks) },
 	{ "size", NUMBERS(sizes) },
 	{ "step", NUMBERS(steps) },
+	{ "number", NUMBERS(small_blocks) },
 };
 
 #undef NUMBERS
@@ -202,8 +207,12 @@ static void lend(struct fuzz *fuzz, struct input *input)
 
 	if (has_number(call->index, "n") && !ream_region_fits(call->number[0], call->number[1]))
 		lend_filler(call);
+	else if (has_number(call->index, "number") && call->number[0] > REAM_SMALL_BLOCKS_MAX)
+		lend_filler(call);
 	else if (has_buffer(call->index, "image"))
 		lend_region(fuzz, input, call->number[0], (unsigned)call->number[1]);
+	else if (has_buffer(call->index, "spares"))
+		build_blocks(call->bytes[0], (size_t)call->number[0], input);
 	else if (call->index == SPARE_READ)
 		lend_page(input, data, call->bytes[0]);
 	else if (call->index == PAGE_READ)
@@ -249,7 +258,7 @@ static struct fuzz *begin(void)
 }
 
 /* What a call is made with depends on the input alone, whichever inputs came before. The lengths of the small
- * chip's entries are the same whatever their numbers are. */
+ * chip's entries, but for a number of blocks, are the same whatever their numbers are. */
 static void run_input(struct fuzz *fuzz, struct input *input)
 {
 	struct test *test = &fuzz->test;

@@ -1,6 +1,6 @@
 /*
- * Reamsickle: spare areas of the small NAND chip, read and written with repair, and the bad-block table of
- * the large NAND chip, read, updated and recovered.
+ * Reamsickle: spare areas of the small NAND chip, read and written with repair, its boot blocks, mapped, and
+ * the bad-block table of the large NAND chip, read, updated and recovered.
  *
  * The library works on bytes that the caller lends. It drives no chip, allocates nothing and keeps
  * nothing between calls, so calls on different buffers may run side by side.
@@ -16,6 +16,12 @@
  *	6, 7, 11, 12	magic-and-count word, big endian, in that order
  *	8-10		code of the second half (data bytes 256-511)
  *	13-15		code of the first half (data bytes 0-255)
+ *
+ *   The first and the last page of a boot block have the tag REAM_TAG_BOOT and the path 4 * boot number +
+ *   generation. Boot numbers go from 0 to at most 2^24 - 1; a chip block may hold any of them. An update writes the
+ *   boot number's new block in the next generation, 0 to 3 and 0 again, and then erases the old block. So a power
+ *   cut can leave both. Unless the old block has been erased the update is not complete, and the old block still
+ *   holds the boot number (source document 000, 4.2). ream_boot_map() tells them apart.
  *
  * The large chip
  *
@@ -147,20 +153,21 @@
  *
  *	bits 0-7	the refusal, 0 (REAM_OK) where the call was answered
  *	bits 8-63	of a refused call its detail: REAM_BAD_BLOCK has the kind of bad block,
- *			REAM_UNREPAIRABLE has the half, all others have 0; of an answered call the numbers
- *			that the entry names, 0 where it names none
+ *			REAM_UNREPAIRABLE has the half, REAM_BOOT_SET has a boot number, all others have 0; of
+ *			an answered call the numbers that the entry names, 0 where it names none
  *
- *   ream_refusal() and ream_detail() take it apart; ream_version(), ream_primary_block(),
- *   ream_mirror_block() and ream_step_count() give the numbers of an answered call. To see whether a call
- *   was answered, compare ream_refusal() of the answer with REAM_OK, not the answer itself.
+ *   ream_refusal() and ream_detail() take it apart; ream_mapped_count(), ream_erased_count(), ream_version(),
+ *   ream_primary_block(), ream_mirror_block() and ream_step_count() give the numbers of an answered call. To see
+ *   whether a call was answered, compare ream_refusal() of the answer with REAM_OK, not the answer itself.
  *
  *   A refused call changes no lent byte, outputs included. Where several things are wrong at once the
- *   order of judging decides: N and size (2), then all lengths (1), then the other arguments (2), then what
- *   the page holds (3, 4, 5, 6) or what the region holds (8, 7, 9, then 10 or 11). Then come the failed steps,
- *   oldest first: for each its number (2), whether it is a zero step (12), and whether there is a target (11);
- *   the first refusal that is met is the answer, and the list is not looked at further. The number of the step
- *   whose page is asked for (2) comes last of all. While N or size is refused no length is judged. Each entry
- *   below names the refusals it can give, in its order.
+ *   order of judging decides: N and size, or the number of small-chip blocks (2), then all lengths (1), then the
+ *   other arguments (2), then what the page holds (3, 4, 5, 6), the boot blocks (13), or what the region holds
+ *   (8, 7, 9, then 10 or 11). Then come the failed steps, oldest first: for each its number (2), whether it is a
+ *   zero step (12), and whether there is a target (11); the first refusal that is met is the answer, and the list
+ *   is not looked at further. The number of the step whose page is asked for (2) comes last of all. While N, size
+ *   or the number of small-chip blocks is refused no length is judged. Each entry below names the refusals it can
+ *   give, in its order.
  *
  * What the library cannot see, and the caller owes
  *
@@ -187,8 +194,8 @@
  * The library's own version, as text and as a number to compare: 10,000 * major + 100 * minor + patch.
  * (ream_version() gives that of a table or a plan.)
  */
-#define REAM_LIBRARY_VERSION "3.0"
-#define REAM_LIBRARY_VERSION_NUMBER 30000
+#define REAM_LIBRARY_VERSION "3.1"
+#define REAM_LIBRARY_VERSION_NUMBER 30100
 
 /* The refusals. */
 enum ream_refusal_number {
@@ -205,6 +212,7 @@ enum ream_refusal_number {
 	REAM_NOT_SETTLED = 10,	/* reading or update: the pair is not settled, and none of 7 to 9 */
 	REAM_NO_TARGET = 11,	/* planning: there is no block for a copy that is missing or whose block failed */
 	REAM_ZERO_FAILED = 12,	/* planning: the failed step is a zero step */
+	REAM_BOOT_SET = 13,	/* the boot blocks do not fit together: see ream_boot_map(); detail: a boot number */
 };
 
 /* The detail of REAM_BAD_BLOCK. */
@@ -233,19 +241,24 @@ enum ream_tag {
 	REAM_TAG_BOOT = 0x01,
 };
 
-/* The small chip's sizes, in bytes: the lengths that its entries ask for. */
+/* The small chip's sizes, in bytes: the lengths that its entries ask for, and those that ream_boot_map() asks for
+ * a block. */
 enum ream_small_size {
 	REAM_SMALL_DATA_SIZE = 512,	/* a page's data */
 	REAM_SMALL_SPARE_SIZE = 16,	/* a page's spare bytes */
 	REAM_HALF_SIZE = 256,		/* half of a page's data */
 	REAM_HALF_CODE_SIZE = 3,	/* the code of a half */
 	REAM_FIELDS_SIZE = 11,		/* what reading gives */
+	REAM_BOOT_SPARES_SIZE = 32,	/* a block's spares, of its first page and of its last */
+	REAM_BOOT_BLOCK_SIZE = 2,	/* a block's room in a list of boot blocks */
 };
 
-/* The largest numbers that can be written. Reading can report a count of 262,143 too. */
+/* The largest numbers that can be written, and the most blocks that can be mapped. Reading can report a count of
+ * 262,143 too. */
 enum ream_small_range {
 	REAM_PATH_MAX = 67108863,	/* 2^26 - 1 */
 	REAM_COUNT_MAX = 262142,
+	REAM_SMALL_BLOCKS_MAX = 1024,
 };
 
 /* An entry of the bad-block table. */
@@ -355,6 +368,43 @@ uint64_t ream_spare_read(const uint8_t *spare, size_t spare_len, uint8_t *fields
  */
 uint64_t ream_page_read(uint8_t *data, size_t data_len, const uint8_t *spare, size_t spare_len,
 			uint8_t *fields, size_t fields_len);
+
+/*
+ * Maps the boot blocks: tells which chip block holds which boot number, and which blocks are to be erased.
+ *
+ *	number	how many blocks of the small chip are lent, 0 to REAM_SMALL_BLOCKS_MAX
+ *	spares	32 * number bytes: of each block, in rising order, the spare of its first page, then that of its
+ *		last
+ *	mapped	2 * number bytes, out: the chip block of boot number 0, then that of 1, and so on
+ *	erased	2 * number bytes, out: the chip blocks to be erased, in rising order of their boot numbers
+ *
+ * In both lists a chip block is its place among the blocks lent, from 0, in two bytes, big endian:
+ * ream_boot_block(). Bytes past a list's last block keep what they held.
+ *
+ * A block counts as a boot block if ream_spare_read() answers for both of its spares, both tags are REAM_TAG_BOOT
+ * and both paths are the same, tags and paths after repair. All other blocks are passed over, as one is that was
+ * not written to its end.
+ *
+ *	blocks of a boot number		mapped		to be erased
+ *	one				that		none
+ *	two, of generations g and g + 1	that of g	that of g + 1
+ *	  modulo 4 (3 and 0 too)
+ *
+ * So an update that was cut is taken back. A loader reads boot number k from block ream_boot_block(mapped, k), and
+ * erases the blocks of erased before the next update of a boot block, which would add a third to a number that has
+ * two.
+ *
+ * REAM_BOOT_SET has the smallest boot number that no block has though one has a higher number, that two blocks have
+ * in other generations than these, or that three or more have.
+ *
+ * An answered call gives the number of mapped blocks (bits 8-23) and that of blocks to be erased (bits 24-39):
+ * ream_mapped_count(), ream_erased_count(). Both are 0 if there is no boot block.
+ *
+ * Refuses, in this order: REAM_RANGE (number); REAM_LENGTH; REAM_BOOT_SET with the boot number. spares is never
+ * changed. The call keeps 4 KiB on the stack, whatever the number of blocks.
+ */
+uint64_t ream_boot_map(uint64_t number, const uint8_t *spares, size_t spares_len, uint8_t *mapped, size_t mapped_len,
+		       uint8_t *erased, size_t erased_len);
 
 /*
  * The first bitmap of a chip, from the factory's marks.
@@ -513,10 +563,22 @@ static inline unsigned ream_refusal(uint64_t answer)
 	return (unsigned)(answer & 0xFF);
 }
 
-/* The detail of a refused call: enum ream_bad_block, enum ream_half, or 0. */
+/* The detail of a refused call: enum ream_bad_block, enum ream_half, a boot number, or 0. */
 static inline unsigned ream_detail(uint64_t answer)
 {
-	return (unsigned)(answer >> 8 & 0xFF);
+	return (unsigned)(answer >> 8 & 0xFFFFFF);
+}
+
+/* The number of mapped blocks, in the answer of ream_boot_map(). */
+static inline unsigned ream_mapped_count(uint64_t answer)
+{
+	return (unsigned)(answer >> 8 & 0xFFFF);
+}
+
+/* The number of blocks to be erased, in the answer of ream_boot_map(). */
+static inline unsigned ream_erased_count(uint64_t answer)
+{
+	return (unsigned)(answer >> 24 & 0xFFFF);
 }
 
 /* The version in the answer of ream_table_read() or of planning. */
@@ -573,6 +635,8 @@ static inline const char *ream_refusal_text(unsigned refusal)
 		return "there is no block to write a copy to";
 	case REAM_ZERO_FAILED:
 		return "a step that writes zeros failed";
+	case REAM_BOOT_SET:
+		return "a boot number is missing, or its blocks do not fit together";
 	default:
 		return "unknown refusal";
 	}
@@ -604,6 +668,24 @@ static inline struct ream_fields ream_fields_get(const uint8_t bytes[REAM_FIELDS
 	fields.count = ream_big_endian(bytes + 6);
 	fields.repairs = bytes[10];
 	return fields;
+}
+
+/* The boot number in the path of a boot block's first or last page. */
+static inline uint32_t ream_boot_number(uint32_t path)
+{
+	return path / 4;
+}
+
+/* The generation in such a path, 0 to 3. */
+static inline unsigned ream_boot_generation(uint32_t path)
+{
+	return path % 4;
+}
+
+/* The chip block at a place (from 0) of a list that ream_boot_map() filled. */
+static inline unsigned ream_boot_block(const uint8_t *list, size_t place)
+{
+	return (unsigned)list[REAM_BOOT_BLOCK_SIZE * place] << 8 | list[REAM_BOOT_BLOCK_SIZE * place + 1];
 }
 
 /* The pages that a copy of the table fills, P, on a chip of n blocks; 0 where n is not a number of blocks
@@ -676,7 +758,8 @@ static inline struct ream_step ream_step_get(const uint8_t bytes[REAM_STEP_SIZE]
 /*
  * The entries again, for callers whose pointers may be null: a null pointer is lent as a buffer of no
  * bytes, whatever the length beside it says. So it is refused as a wrong length is, in the same place
- * of the order; only failed may have no bytes, so a null pointer there says that no step failed.
+ * of the order; only failed may have no bytes, so a null pointer there says that no step failed, and so may
+ * the buffers of ream_boot_map() where number is 0.
  */
 static inline uint64_t ream_half_code_checked(const uint8_t *half, size_t half_len,
 					      uint8_t *code, size_t code_len)
@@ -715,6 +798,16 @@ static inline uint64_t ream_page_read_checked(uint8_t *data, size_t data_len,
 	return ream_page_read(data ? data : none, data ? data_len : 0,
 			      spare ? spare : none, spare ? spare_len : 0,
 			      fields ? fields : none, fields ? fields_len : 0);
+}
+
+static inline uint64_t ream_boot_map_checked(uint64_t number, const uint8_t *spares, size_t spares_len,
+					     uint8_t *mapped, size_t mapped_len, uint8_t *erased, size_t erased_len)
+{
+	uint8_t none[1] = { 0 };
+
+	return ream_boot_map(number, spares ? spares : none, spares ? spares_len : 0,
+			     mapped ? mapped : none, mapped ? mapped_len : 0,
+			     erased ? erased : none, erased ? erased_len : 0);
 }
 
 static inline uint64_t ream_first_bitmap_checked(uint64_t n, uint64_t size, const uint8_t *marks, size_t marks_len,

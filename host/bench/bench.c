@@ -1,15 +1,17 @@
 /*
  * The benchmark: the time of each entry beside the reference's, in one run on one machine.
  *
- * Each round goes through many different inputs, 2,048 pages or 64 regions, first by the library, then by the
- * reference; one input repeated would let the processor learn its bits by heart. The figures are the medians
- * of the rounds, in nanoseconds a call, and the ratio of the two. What is lent (1 MB of pages, up to 4 MB of
- * regions) is written anew before each timing, so that it is as warm for the one as for the other.
+ * Each round goes through many different inputs, 2,048 pages, 64 regions or the boot blocks of 16 chips, first by
+ * the library, then by the reference; one input repeated would let the processor learn its bits by heart. The
+ * figures are the medians of the rounds, in nanoseconds a call, and the ratio of the two. What is lent (1 MB of
+ * pages, up to 4 MB of regions, 512 KB of spares) is written anew before each timing, so that it is as warm for the
+ * one as for the other.
  *
  * Of the small chip the reference is written to be read and not to be fast. So the code of a half, on which its
  * entries spend their time, stands beside C that is written to be fast as well (yardstick.h). Of the large chip
  * the reference is the yardstick: it compares bitmaps by memcmp, copies them by memcpy and goes through entries
- * in plain loops.
+ * in plain loops. The map of boot blocks, which has to read all their spares, stands beside the library's own reading
+ * of these.
  */
 #define _POSIX_C_SOURCE 199309L
 
@@ -24,8 +26,9 @@
 
 /* All entries, in the order of struct implementation. */
 #define ENTRIES(by) {										\
-	by##_half_code, by##_spare_write, by##_spare_read, by##_page_read, by##_first_bitmap,	\
-	by##_table_read, by##_update_plan, by##_recovery_plan, by##_update_page, by##_recovery_page,	\
+	by##_half_code, by##_spare_write, by##_spare_read, by##_page_read, by##_boot_map,	\
+	by##_first_bitmap, by##_table_read, by##_update_plan, by##_recovery_plan,		\
+	by##_update_page, by##_recovery_page,							\
 }
 
 static const struct implementation library = ENTRIES(ream), reference = ENTRIES(ref);
@@ -78,6 +81,11 @@ double time_library(struct bench *bench, const struct trial *trial, unsigned inp
 	return timed(bench, trial, &library, inputs, times);
 }
 
+double time_reference(struct bench *bench, const struct trial *trial, unsigned inputs, unsigned times)
+{
+	return timed(bench, trial, &reference, inputs, times);
+}
+
 void run(struct bench *bench, const struct trial *trial, unsigned inputs, unsigned times)
 {
 	double ours[ROUNDS], theirs[ROUNDS];
@@ -108,11 +116,12 @@ int main(void)
 		return EXIT_FAILURE;
 	}
 	prepare_pages(bench);
-	printf("processor time a call, median of %d rounds over %d different pages or %d different regions;\n",
-	       ROUNDS, PAGES, REGIONS);
+	printf("processor time a call, median of %d rounds over %d different pages, %d regions or %d small chips;\n",
+	       ROUNDS, PAGES, REGIONS, SMALL_CHIPS);
 	printf("ratio: the library's time divided by the other's\n");
 	bench_small(bench);
 	bench_halves(bench);
+	bench_boots(bench);
 	bench_large(bench, REAM_BLOCKS_MIN);
 	bench_large(bench, REAM_BLOCKS_MAX);
 	bench_sizes(bench, REAM_BLOCKS_MAX);

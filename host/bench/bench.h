@@ -4,6 +4,7 @@
 #ifndef BENCH_H
 #define BENCH_H
 
+#include <stdbool.h>
 #include <stddef.h>
 #include <stdint.h>
 
@@ -13,6 +14,8 @@
 enum {
 	PAGES = 2048,
 	REGIONS = 64,
+	SMALL_CHIPS = 16,
+	SMALL_BLOCKS = 1024,
 	ROUNDS = 15,
 	SEED = 20240229,
 };
@@ -34,6 +37,7 @@ struct implementation {
 	uint64_t (*spare_write)(const uint8_t *, size_t, uint64_t, uint64_t, uint64_t, uint8_t *, size_t);
 	uint64_t (*spare_read)(const uint8_t *, size_t, uint8_t *, size_t);
 	uint64_t (*page_read)(uint8_t *, size_t, const uint8_t *, size_t, uint8_t *, size_t);
+	uint64_t (*boot_map)(uint64_t, const uint8_t *, size_t, uint8_t *, size_t, uint8_t *, size_t);
 	uint64_t (*first_bitmap)(uint64_t, uint64_t, const uint8_t *, size_t, uint8_t *, size_t);
 	uint64_t (*table_read)(uint64_t, uint64_t, const uint8_t *, size_t, const uint8_t *, size_t,
 			       uint8_t *, size_t);
@@ -58,6 +62,11 @@ struct bench {
 	uint8_t fields[11];
 	struct yard_table table;
 	uint8_t code[3];
+
+	uint8_t written[SMALL_CHIPS][2 * SMALL_BLOCKS][16];	/* the spares of boot blocks, as prepared */
+	uint8_t spares[SMALL_CHIPS][2 * SMALL_BLOCKS][16];	/* lent */
+	uint8_t mapped[2 * SMALL_BLOCKS];
+	uint8_t erased[2 * SMALL_BLOCKS];
 
 	uint64_t n;					/* the blocks of the chip */
 	unsigned size;					/* and of its region */
@@ -88,8 +97,9 @@ struct trial {
  * makes it so often. */
 void run(struct bench *bench, const struct trial *trial, unsigned inputs, unsigned times);
 
-/* The time of one call of the library, in nanoseconds, by a single timing. */
+/* The time of one call of the library, or of the reference, in nanoseconds, by a single timing. */
 double time_library(struct bench *bench, const struct trial *trial, unsigned inputs, unsigned times);
+double time_reference(struct bench *bench, const struct trial *trial, unsigned inputs, unsigned times);
 
 /* The heads of the columns of such rows. */
 void print_heads(void);
@@ -103,10 +113,11 @@ double median(double *times);
 /* Draws the pages, writes their spares and flips one bit of each page and of each path word. */
 void prepare_pages(struct bench *bench);
 
-/* The tables: the small chip's entries, the code of a half by all who can make it, the large chip's entries on a
- * chip of n blocks with the smallest region, and some of them by the size of the region. */
+/* The tables: the small chip's entries, the code of a half by all who can make it, the map of boot blocks, the large
+ * chip's entries on a chip of n blocks with the smallest region, and some of them by the size of the region. */
 void bench_small(struct bench *bench);
 void bench_halves(struct bench *bench);
+void bench_boots(struct bench *bench);
 void bench_large(struct bench *bench, uint64_t n);
 void bench_sizes(struct bench *bench, uint64_t n);
 

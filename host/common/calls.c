@@ -39,6 +39,7 @@ CALLS(update_plan, number[0], number[1], LENT(0), LENT(1), LENT(2), LENT(3), LEN
 CALLS(recovery_plan, number[0], number[1], LENT(0), LENT(1), LENT(2), LENT(3))
 CALLS(update_page, number[0], number[1], LENT(0), LENT(1), LENT(2), LENT(3), number[2], LENT(4))
 CALLS(recovery_page, number[0], number[1], LENT(0), LENT(1), LENT(2), number[2], LENT(3))
+CALLS(boot_map, number[0], LENT(0), LENT(1), LENT(2))
 
 #undef LENT
 #undef CALLS
@@ -101,6 +102,12 @@ const struct entry entries[ENTRIES] = {
 		"ream_recovery_page", 3, { "n", "size", "step" },
 		4, { IMAGE, STATUS, FAILED, PAGE },
 		library_recovery_page, reference_recovery_page,
+	},
+	[BOOT_MAP] = {
+		"ream_boot_map", 1, { "number" },
+		3, { { "spares", 32, SMALL_BLOCK, IN }, { "mapped", 2, SMALL_BLOCK, OUT },
+		     { "erased", 2, SMALL_BLOCK, OUT } },
+		library_boot_map, reference_boot_map,
 	},
 };
 
@@ -177,6 +184,34 @@ static void show_region(const struct call *call)
 	}
 }
 
+/* What counts of a spare: path word, tag, status, and the magic-and-count word. */
+static void show_spare(const uint8_t *spare)
+{
+	printf("  path %02X%02X%02X%02X tag %02X status %02X count %02X%02X%02X%02X", spare[0], spare[1], spare[2],
+	       spare[3], spare[4], spare[5], spare[6], spare[7], spare[11], spare[12]);
+}
+
+/* The same of both spares of the first small-chip blocks that are not erased. */
+static void show_spares(const struct call *call)
+{
+	const size_t blocks = lent_held(call->len[0]) / 32;
+	unsigned shown = 0;
+	uint8_t erased[32];
+
+	memset(erased, 0xFF, sizeof(erased));
+	for (size_t block = 0; block < blocks && shown < SHOWN_BLOCKS; block++) {
+		const uint8_t *spares = call->bytes[0] + 32 * block;
+
+		if (memcmp(spares, erased, sizeof(erased)) == 0)
+			continue;
+		printf("    block %-4zu", block);
+		show_spare(spares);
+		show_spare(spares + 16);
+		printf("\n");
+		shown++;
+	}
+}
+
 static void show_call(const struct test *test)
 {
 	const struct call *call = &test->call;
@@ -189,6 +224,8 @@ static void show_call(const struct test *test)
 		show_buffer(entry->buffer[i].name, call->bytes[i], call->len[i]);
 	if (has_buffer(call->index, "image"))
 		show_region(call);
+	if (has_buffer(call->index, "spares"))
+		show_spares(call);
 	printf("    answer    %" PRIX64 " hex, reference %" PRIX64 " hex\n", test->answer,
 	       test->reference_answer);
 }
@@ -244,10 +281,11 @@ int test_end(const struct test *test)
 
 /* ---- calls */
 
-/* How many of a unit there are on a chip of n blocks with a region of `size` blocks. */
+/* How many of a unit there are on a chip of n blocks, of the large one with a region of `size` blocks. */
 static uint64_t units(enum unit unit, uint64_t n, uint64_t size)
 {
 	switch (unit) {
+	case SMALL_BLOCK:
 	case BLOCK_OF_CHIP:
 		return n;
 	case BYTE_OF_BITMAP:
@@ -274,6 +312,11 @@ void call_begin_large(struct test *test, enum entry_index index, uint64_t n, uin
 		if (entry->buffer[i].direction == OUT)
 			draw_bytes(&test->state, call->bytes[i], lent_held(call->len[i]));
 	}
+}
+
+void call_begin_small(struct test *test, enum entry_index index, uint64_t number)
+{
+	call_begin_large(test, index, number, 0);
 }
 
 void call_begin(struct test *test, enum entry_index index)

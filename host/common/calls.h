@@ -3,10 +3,10 @@
  * answer, each lent byte, and the guard bytes around each buffer. Two rules are checked of the library
  * besides: an input is never changed, and a refused call changes nothing.
  *
- * A call is made in three steps: call_begin(), or call_begin_large() for an entry of the large chip, names the
- * entry, sets every length to the one that document 01 names, or to 0 where any goes, and fills the outputs with
- * bytes drawn anew; call_lend(), or a store to the call's numbers, lengths and bytes, sets the rest; call_compare()
- * makes the call both ways.
+ * A call is made in three steps: call_begin(), call_begin_small() for an entry that takes a number of small-chip
+ * blocks, or call_begin_large() for one of the large chip, names the entry, sets every length to the one that the
+ * documents name, or to 0 where any goes, and fills the outputs with bytes drawn anew; call_lend(), or a store to
+ * the call's numbers, lengths and bytes, sets the rest; call_compare() makes the call both ways.
  *
  * An entry is a row of the table `entries`. A new entry of the library is a new row, at its end.
  */
@@ -24,19 +24,21 @@ enum {
 	MOST_BUFFERS = 5,
 	MOST_DIFFERENCES = 5,	/* a test ends after this many */
 	SHOWN_BYTES = 16,	/* a message shows so many bytes of a buffer */
+	SHOWN_BLOCKS = 20,	/* and so many small-chip blocks */
 };
 
 /* The entries. The inputs of fuzz/corpus have these numbers, so a new entry goes to the end. */
 enum entry_index {
 	HALF_CODE, SPARE_WRITE, SPARE_READ, PAGE_READ,
 	FIRST_BITMAP, TABLE_READ, UPDATE_PLAN, RECOVERY_PLAN, UPDATE_PAGE, RECOVERY_PAGE,
+	BOOT_MAP,
 	ENTRIES,
 };
 
 enum direction { IN, OUT, IN_OUT };
 
 /* What a buffer's length is counted in; or any length goes, and none is wrong. */
-enum unit { BYTE, BLOCK_OF_CHIP, BYTE_OF_BITMAP, PAGE_OF_REGION, ANY_LENGTH };
+enum unit { BYTE, SMALL_BLOCK, BLOCK_OF_CHIP, BYTE_OF_BITMAP, PAGE_OF_REGION, ANY_LENGTH };
 
 /* An entry with its numbers, its buffers and their lengths in arrays, each in the order of the parameters. */
 typedef uint64_t entry_call(const uint64_t *number, uint8_t *const *at, const size_t *len);
@@ -59,7 +61,7 @@ struct entry {
 extern const struct entry entries[ENTRIES];
 
 /* Has an entry a number, or a buffer, of this name? The large chip's entries have "n" and "size", the region's,
- * as their first two numbers. */
+ * as their first two numbers; one that takes a number of small-chip blocks has "number" as its first. */
 bool has_number(enum entry_index index, const char *name);
 bool has_buffer(enum entry_index index, const char *name);
 
@@ -90,6 +92,10 @@ struct test {
 };
 
 void call_begin(struct test *test, enum entry_index index);
+
+/* The same for an entry that takes a number of small-chip blocks, with the lengths that go with it; it may be any
+ * number. */
+void call_begin_small(struct test *test, enum entry_index index, uint64_t number);
 
 /* The same for an entry of the large chip, with the lengths that go with n and the region's size, which may be any
  * numbers. */

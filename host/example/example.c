@@ -1,9 +1,9 @@
 /*
  * An example for drivers, in two parts. The small chip: writes the spare of a page, flips one bit as a worn
- * chip would, reads the page back through the library, and shows a refusal. The large chip: reads the
- * bad-block table, marks a block as gone bad and reads the table back; then an erase fails in such an update, so
- * that a block of the region is retired and the update goes on in another; then power fails in an update, and a
- * recovery settles the pair again.
+ * chip would, reads the page back through the library, and shows a refusal; then finds the boot blocks, as a loader
+ * does. The large chip: reads the bad-block table, marks a block as gone bad and reads the table back; then an erase
+ * fails in such an update, so that a block of the region is retired and the update goes on in another; then power
+ * fails in an update, and a recovery settles the pair again.
  */
 #include <inttypes.h>
 #include <limits.h>
@@ -69,6 +69,39 @@ static int small_chip(void)
 	answer = ream_page_read(data, sizeof(data), spare, sizeof(spare), fields, sizeof(fields));
 	print_refusal("page read with two bits of a half flipped", answer);
 	return ream_refusal(answer) == REAM_UNREPAIRABLE ? EXIT_SUCCESS : EXIT_FAILURE;
+}
+
+/* Writes the spares of a boot block, of its first page and of its last. */
+static void lay_out_boot(uint8_t *spares, uint64_t number, uint64_t generation)
+{
+	static const uint8_t data[REAM_SMALL_DATA_SIZE];
+
+	for (unsigned i = 0; i < 2; i++)
+		ream_spare_write(data, sizeof(data), REAM_TAG_BOOT, 4 * number + generation, 1000,
+				 spares + i * REAM_SMALL_SPARE_SIZE, REAM_SMALL_SPARE_SIZE);
+}
+
+static int boot_blocks(void)
+{
+	uint8_t spares[4][REAM_BOOT_SPARES_SIZE];
+	uint8_t mapped[4 * REAM_BOOT_BLOCK_SIZE], erased[4 * REAM_BOOT_BLOCK_SIZE];
+	uint64_t answer;
+
+	/* Block 1 is erased. Power failed when boot number 1 had been written to block 3, before block 0 was erased. */
+	memset(spares, 0xFF, sizeof(spares));
+	lay_out_boot(spares[2], 0, 2);
+	lay_out_boot(spares[0], 1, 3);
+	lay_out_boot(spares[3], 1, 0);
+	answer = ream_boot_map(4, spares[0], sizeof(spares), mapped, sizeof(mapped), erased, sizeof(erased));
+	if (ream_refusal(answer) != REAM_OK) {
+		print_refusal("ream_boot_map", answer);
+		return EXIT_FAILURE;
+	}
+	for (unsigned i = 0; i < ream_mapped_count(answer); i++)
+		printf("boot number %u is in block %u\n", i, ream_boot_block(mapped, i));
+	for (unsigned i = 0; i < ream_erased_count(answer); i++)
+		printf("block %u is to be erased\n", ream_boot_block(erased, i));
+	return EXIT_SUCCESS;
 }
 
 /* A chip of 1,024 blocks: a copy of its table fills one page. The last four blocks are the region, as on the chips
@@ -303,7 +336,7 @@ static int large_chip(void)
 
 int main(void)
 {
-	if (small_chip() != EXIT_SUCCESS)
+	if (small_chip() != EXIT_SUCCESS || boot_blocks() != EXIT_SUCCESS)
 		return EXIT_FAILURE;
 	return large_chip();
 }

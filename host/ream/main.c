@@ -7,6 +7,8 @@
 
 #include "reamsickle.h"
 
+enum { COLUMNS = 80, TEXT_LEN = 512 };
+
 static const char help[] =
 	"usage: ream COMMAND [OPTIONS] [FILE]\n"
 	"\n"
@@ -17,11 +19,14 @@ static const char help[] =
 	"  update    plans an update of the tables, and can carry it out on a copy\n"
 	"  recover   plans a recovery of the tables, and can do so too\n"
 	"  page      reads a page of the small chip, with repair\n"
+	"  boot      maps the boot blocks in a dump of the small chip\n"
 	"  simulate  shows a history with power cuts, as text and as a picture\n"
 	"\n"
 	"ream COMMAND --help and ream help COMMAND tell of a command, ream --version the\n"
 	"version. Exit status: 0 done, 1 refused by the library, 2 an argument or a file\n"
 	"is wrong.\n";
+
+#define COMMANDS "pair, update, recover, page, boot or simulate"
 
 static const struct command {
 	const char *name;
@@ -31,6 +36,7 @@ static const struct command {
 	{ "update", update_command },
 	{ "recover", recover_command },
 	{ "page", page_command },
+	{ "boot", boot_command },
 	{ "simulate", simulate_command },
 };
 
@@ -46,9 +52,30 @@ void complain(const char *format, ...)
 	fputc('\n', stderr);
 }
 
+void print_broken(const char *word, const char *format, ...)
+{
+	size_t column = (size_t)printf("%s:", word);
+	char text[TEXT_LEN];
+	const char *rest = text;
+	va_list arguments;
+
+	va_start(arguments, format);
+	vsnprintf(text, sizeof(text), format, arguments);
+	va_end(arguments);
+	while (*rest) {
+		const size_t len = strcspn(rest, " ");
+
+		if (column + 1 + len > COLUMNS)
+			column = (size_t)printf("\n ") - 1;
+		column += (size_t)printf(" %.*s", (int)len, rest);
+		rest += len + strspn(rest + len, " ");
+	}
+	putchar('\n');
+}
+
 enum exit_status print_refusal(const char *what, unsigned refusal)
 {
-	printf("%s: refused, %u: %s\n", what, refusal, ream_refusal_text(refusal));
+	print_broken(what, "refused, %u: %s", refusal, ream_refusal_text(refusal));
 	return EXIT_REFUSED;
 }
 
@@ -81,7 +108,7 @@ static const struct command *find(const char *name)
 	for (unsigned i = 0; i < sizeof(commands) / sizeof(commands[0]); i++)
 		if (strcmp(name, commands[i].name) == 0)
 			return &commands[i];
-	complain("%s: no such command; expected pair, update, recover, page or simulate (ream --help)", name);
+	complain("%s: no such command; expected " COMMANDS " (ream --help)", name);
 	return NULL;
 }
 
@@ -106,7 +133,7 @@ static enum exit_status run(int argc, char **argv)
 	const struct command *command;
 
 	if (argc < 2) {
-		complain("no command; expected pair, update, recover, page or simulate (ream --help)");
+		complain("no command; expected " COMMANDS " (ream --help)");
 		return EXIT_WRONG;
 	}
 	if (strcmp(argv[1], "help") == 0 && argc > 2)

@@ -2,11 +2,8 @@
 #include "notes.h"
 
 #include <stdarg.h>
-#include <string.h>
 
 #include "tool.h"
-
-enum { COLUMNS = 80 };
 
 void notes_add(struct notes *notes, const char *format, ...)
 {
@@ -19,26 +16,10 @@ void notes_add(struct notes *notes, const char *format, ...)
 	va_end(arguments);
 }
 
-/* Prints a text after a word, broken at blanks. */
-static void print_broken(const char *word, const char *text)
-{
-	size_t column = (size_t)printf("%s:", word);
-
-	while (*text) {
-		const size_t len = strcspn(text, " ");
-
-		if (column + 1 + len > COLUMNS)
-			column = (size_t)printf("\n ") - 1;
-		column += (size_t)printf(" %.*s", (int)len, text);
-		text += len + strspn(text + len, " ");
-	}
-	putchar('\n');
-}
-
 void notes_print(const struct notes *notes, const char *word)
 {
 	for (unsigned i = 0; i < notes->count; i++)
-		print_broken(word, notes->text[i]);
+		print_broken(word, "%s", notes->text[i]);
 }
 
 void notes_warn(const struct notes *notes)

@@ -9,6 +9,7 @@
 #include "json.h"
 #include "output.h"
 #include "reamsickle.h"
+#include "spare.h"
 #include "tool.h"
 
 static const char help[] =
@@ -96,40 +97,15 @@ static void write_repairs(struct json *json, const struct reading *reading)
 
 /* ---- fields */
 
-static const char *tag_words(uint8_t tag)
-{
-	switch (tag) {
-	case REAM_TAG_FREE:
-		return "free";
-	case REAM_TAG_LOG_COPYING:
-		return "log-copying";
-	case REAM_TAG_LOG:
-		return "log";
-	case REAM_TAG_DATA_COPYING:
-		return "data-copying";
-	case REAM_TAG_DATA:
-		return "data";
-	case REAM_TAG_BOOT_COPYING:
-		return "boot-copying";
-	default:
-		return "boot";
-	}
-}
-
-static bool is_boot(const struct ream_fields *fields)
-{
-	return fields->tag == REAM_TAG_BOOT || fields->tag == REAM_TAG_BOOT_COPYING;
-}
-
 static void print_fields(const struct reading *reading)
 {
 	const struct ream_fields *fields = &reading->fields;
 
 	printf("status: %02X, good\n", fields->status);
-	printf("tag: %02X, %s\n", fields->tag, tag_words(fields->tag));
-	if (is_boot(fields))
-		printf("path: %" PRIu32 ", boot number %" PRIu32 ", generation %" PRIu32 "\n", fields->path,
-		       fields->path / 4, fields->path % 4);
+	printf("tag: %02X, %s\n", fields->tag, spare_tag(fields->tag));
+	if (spare_boots(fields->tag))
+		printf("path: %" PRIu32 ", boot number %" PRIu32 ", generation %u\n", fields->path,
+		       ream_boot_number(fields->path), ream_boot_generation(fields->path));
 	else
 		printf("path: %" PRIu32 "\n", fields->path);
 	printf("count: %" PRIu32 " erase%s\n", fields->count, plural(fields->count));
@@ -142,12 +118,8 @@ static void write_fields(struct json *json, const struct reading *reading)
 
 	json_number(json, "status", fields->status);
 	json_number(json, "tag", fields->tag);
-	json_text(json, "tag_name", tag_words(fields->tag));
-	json_number(json, "path", fields->path);
-	if (is_boot(fields)) {
-		json_number(json, "boot_number", fields->path / 4);
-		json_number(json, "generation", fields->path % 4);
-	}
+	json_text(json, "tag_name", spare_tag(fields->tag));
+	spare_write_path(json, fields);
 	json_number(json, "count", fields->count);
 	write_repairs(json, reading);
 	outputs_write(json, &reading->outputs);

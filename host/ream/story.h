@@ -35,7 +35,7 @@ enum result {
 };
 
 /* The blocks and pages that an event was on; and the room for its words, and for those of its result. */
-enum { NOWHERE = MOST_REGION_BLOCKS, ALL_PAGES = MOST_PAGES, EVENT_LEN = 48, RESULT_LEN = 64 };
+enum { NOWHERE = MOST_REGION_BLOCKS, ALL_PAGES = MOST_PAGES, EVENT_LEN = 48, RESULT_LEN = 96 };
 
 struct row {
 	enum event event;

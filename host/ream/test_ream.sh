@@ -1255,6 +1255,292 @@ expect 2 "missing: cannot be read" page missing
 
 piped 0 "path: 6, boot number 1, generation 2" page page -
 
+# ---- boot
+
+word_of() { # DATA: the protected word, as octal escapes
+	rest=$1
+	number=3
+	parity=0
+	while [ $rest -gt 0 ]; do
+		case $number in
+		4 | 8 | 16) number=$((number + 1)) ;;
+		esac
+		[ $((rest & 1)) -eq 0 ] || parity=$((parity ^ number))
+		rest=$((rest >> 1))
+		number=$((number + 1))
+	done
+	word=$(($1 << 6 | 32 | parity))
+	printf '\\%03o\\%03o\\%03o\\%03o' $((word >> 24)) $((word >> 16 & 255)) $((word >> 8 & 255)) $((word & 255))
+}
+spare_of() { # TAG PATH STATUS MAGIC: a spare as octal escapes; all but the path in octal, the last two 377 and 126
+	printf '%s' "$(word_of "$2")\\$1\\${3:-377}\\${4:-126}\\000\\377\\377\\377\\000\\142\\377\\377\\377"
+}
+free='\377\377\377\377\377\377\126\000\377\377\377\000\142\377\377\377'
+# The spares of blocks, alike on the first and last page: 3:1 is boot 3 of generation 1, - is free.
+blocks_of() { # BLOCK..
+	for block; do
+		escapes=$free
+		[ "$block" = - ] || escapes=$(spare_of 001 $((4 * ${block%:*} + ${block#*:})))
+		printf "$escapes$escapes"
+	done
+}
+dump_of() { # SPARES PAGES: a dump with these spares, of so many pages a block
+	place=0
+	while [ $place -lt $(($(wc -c <"$1") / 16)) ]; do
+		ff 512
+		dd if="$1" bs=16 skip=$place count=1 2>/dev/null
+		[ $((place % 2)) -eq 1 ] || ff $((($2 - 2) * 528))
+		place=$((place + 1))
+	done
+}
+check "a spare is made as the page's is" [ "$(spare_of 001 6)" = "$spare" ]
+
+blocks_of - 1:0 - 3:1 - 0:3 2:2 - >mixed
+expect 0 "boot: 4 blocks mapped, 0 to erase" boot --spares mixed
+says "dump: 8 blocks (by its size), of each the spares of its first and last page"
+says "blocks: 4 boot, 4 passed over"
+check "what is passed over is told" grep -qx "     4 free" out
+sed -n '/^  boot  block/,$p' out >found
+cat >expected <<-END
+	  boot  block  generation  repairs
+	     0      5           3  -
+	     1      1           0  -
+	     2      6           2  -
+	     3      3           1  -
+END
+check "the map is in the order of boot numbers" cmp expected found
+dump_of mixed 32 >mixed_dump
+expect 0 "boot: 4 blocks mapped, 0 to erase" boot mixed_dump
+says "dump: 8 blocks (by its size), 32 pages a block (assumed)"
+says "     3      3           1  0x00000c000  -"
+sed -n '/^  boot  block/,$s/  address    \|  0x0000[0-9a-f]*//p' out >found
+check "a dump and its spares have one map" cmp expected found
+dump_of mixed 16 >mixed_dump_16
+expect 0 "dump: 8 blocks (by its size), 16 pages a block (told)" boot --pages-per-block 16 mixed_dump_16
+says "     3      3           1  0x000006000  -"
+dd if=mixed_dump bs=16896 count=7 of=first_blocks 2>/dev/null
+expect 0 "boot: 4 blocks mapped, 0 to erase" boot first_blocks
+says "dump: 7 blocks"
+# a block of one page, which is its first and its last
+{ ff $((1023 * 528)); ff 512; blocks_of 0:2 | dd bs=16 count=1 2>/dev/null; } >one_page
+expect 0 "boot: 1 block mapped, 0 to erase" boot --pages-per-block 1 one_page
+says "dump: 1024 blocks (by its size), 1 page a block (told)"
+says "     0   1023           2  0x00007fe00  -"
+check "what is passed over is told" grep -qx "  1023 erased" out
+
+# read with the other number of pages a block it has no map
+warning="mixed_dump_16: with 32 pages a block no boot number is mapped, but with 16 (8 blocks) 4 would be (--pages-per-block)"
+expect_warned 0 "$warning" "boot: there is no boot block" boot mixed_dump_16
+check "what is passed over is told" grep -qx "     4 first and last page differ" out
+expect_warned 0 "with 16 pages a block no boot number is mapped, but with 32 (8 blocks) 4 would be" "16 blocks" \
+	boot --pages-per-block 16 mixed_dump
+
+# of two generations the older is kept if the newer is the next, in either order; no other pair is a pair
+for pair in 0:1 1:2 2:3 3:0; do
+	old=${pair%:*}
+	new=${pair#*:}
+	blocks_of 1:0 0:$old - 0:$new >pair_spares
+	expect 0 "boot: 2 blocks mapped, 1 to erase" boot --spares pair_spares
+	says "     0      1           $old  -"
+	check "the newer is to be erased" grep -qx "erase: block 3" out
+	says "  a newer copy of boot 0: generation $new, and block 1 holds generation $old"
+	blocks_of 0:$new 0:$old 1:0 >pair_spares
+	expect 0 "boot: 2 blocks mapped, 1 to erase" boot --spares pair_spares
+	says "     0      1           $old  -"
+	check "the newer is to be erased" grep -qx "erase: block 0" out
+done
+for pair in 0:0 1:1 2:2 3:3 0:2 2:0 1:3 3:1; do
+	blocks_of 0:${pair%:*} 1:0 0:${pair#*:} >pair_spares
+	expect 1 "boot: refused, 13: a boot number is missing" boot --spares pair_spares
+	says "  boot 0 is in 2 blocks, of which neither is the next generation of the other"
+	says "    block 0: generation ${pair%:*}"
+	says "    block 2: generation ${pair#*:}"
+	says "  higher numbers may be wrong too; --all tells what every block holds"
+	says_not "mapped"
+done
+blocks_of 2:3 1:1 2:0 - 0:0 1:2 >pairs
+dump_of pairs 32 >pairs_dump
+expect 0 "boot: 3 blocks mapped, 2 to erase" boot pairs_dump
+sed -n '/^erase/,$p' out >found
+cat >expected <<-END
+	erase: block 5, address 0x000014000
+	  a newer copy of boot 1: generation 2, and block 1 holds generation 1
+	erase: block 2, address 0x000008000
+	  a newer copy of boot 2: generation 0, and block 0 holds generation 3
+END
+check "blocks to erase are in the order of boot numbers" cmp expected found
+
+# three and more, even if two of them would be a pair
+for blocks in "0:0 0:1 0:2" "0:1 0:0 0:1" "0:3 0:0 0:3 0:0"; do
+	blocks_of $blocks >three
+	expect 1 "boot: refused, 13" boot --spares three
+	says "  boot 0 is in $(echo $blocks | wc -w) blocks; expected one, or two of which one is the newer"
+	check "each of them is told" [ "$(grep -c '^    block [0-3]: generation [0-3]$' out)" -eq "$(echo $blocks | wc -w)" ]
+done
+# a number that is missing
+blocks_of - 1:0 >missing_zero
+expect 1 "boot: refused, 13" boot --spares missing_zero
+says "  boot 0 is missing; the highest found is boot 1, in block 1"
+blocks_of 0:0 5:3 2:0 1:0 5:2 >missing_more
+expect 1 "boot: refused, 13" boot --spares missing_more
+says "  boot 3 is missing; the highest found is boot 5, in block 1"
+blocks_of 0:0 16777215:3 >missing_most
+expect 1 "  boot 1 is missing; the highest found is boot 16777215, in block 1" boot --spares --all missing_most
+says "  block 1: boot 16777215, generation 3"
+check "every block is told already" grep -qx "  higher numbers may be wrong too" out
+# the smallest number that is wrong is told, whatever is wrong with it
+blocks_of 0:0 1:0 1:1 2:0 2:0 4:0 4:0 4:0 >several_wrong
+expect 1 "  boot 2 is in 2 blocks" boot --spares several_wrong
+blocks_of 0:0 1:0 3:0 3:0 4:0 4:0 4:0 >several_wrong
+expect 1 "  boot 2 is missing; the highest found is boot 4, in block 4" boot --spares several_wrong
+blocks_of 0:0 1:0 1:0 1:0 3:0 3:0 5:0 >several_wrong
+expect 1 "  boot 1 is in 3 blocks" boot --spares several_wrong
+
+# repaired spares count as what they were
+flaws() { # BYTE..: the first block has a wrong bit in each of these bytes of its two spares; 15 and 31 do not count
+	blocks_of 0:1 1:0 >flawed
+	for at; do
+		case $((at % 16)) in
+		4 | 15) poke flawed $at '\000' ;;
+		6) poke flawed $at '\127' ;;
+		*) poke flawed $at '\001' ;;
+		esac
+	done
+	expect 0 "boot: 2 blocks mapped, 0 to erase" boot --spares flawed
+}
+flaws 0
+says "     0      0           1  first page 1"
+flaws 16 22
+says "     0      0           1  last page 2"
+flaws 4 6 1 18 20
+says "     0      0           1  first page 3, last page 2"
+says "     1      1           0  -"
+flaws 15 31
+says "     0      0           1  -"
+
+# what is passed over: a block with such a spare on its first page, on its last, and on both
+passed() { # KIND WORDS SPARE KIND: the kind of block with both, the spare in words, and the kind of block with one
+	for at in 0 16; do
+		blocks_of 1:0 0:0 >passed_over
+		poke passed_over $at "$3"
+		expect 0 "boot: 1 block mapped, 0 to erase" boot --spares --all passed_over
+		says "blocks: 1 boot, 1 passed over"
+		check "one page is passed over as: $4" grep -qx "     1 $4" out
+	done
+	says "  block 0: first page boot 1, generation 0,"
+	says "    last page $2"
+	poke passed_over 0 "$3"
+	expect 0 "boot: 1 block mapped, 0 to erase" boot --spares --all passed_over
+	check "both pages are passed over as: $1" grep -qx "     1 $1" out
+	says "  block 0: $2"
+	says "  block 1: boot 0, generation 0"
+}
+differ="first and last page differ"
+erased='\377\377\377\377\377\377\377\377\377\377\377\377\377\377\377\377'
+passed free free "$free" "$differ"
+for tag in 147:log-copying 006:log 171:data-copying 030:data; do
+	passed ${tag#*:} ${tag#*:} "$(spare_of ${tag%:*} 4)" "$differ"
+done
+passed boot-copying "boot-copying 1, generation 3" "$(spare_of 037 7)" "$differ"
+passed "bad (factory)" "bad (factory)" "$(spare_of 001 4 002)" "bad (factory)"
+passed "bad (late)" "bad (late)" "$(spare_of 001 4 374)" "bad (late)"
+passed "unknown tag" "unknown tag 55" "$(spare_of 125 4)" "$differ"
+passed erased erased "$erased" "$differ"
+passed "not ours" "not ours" "$(spare_of 001 4 377 145)" "$differ"
+# a boot block of which the pages have other numbers or generations; a status byte with one 0 is good
+for path in 5 7 8 0; do
+	blocks_of 1:0 0:0 >passed_over
+	poke passed_over 16 "$(spare_of 001 $path)"
+	expect 0 "boot: 1 block mapped, 0 to erase" boot --spares --all passed_over
+	check "other paths are passed over" grep -qx "     1 $differ" out
+	says "    last page boot $((path / 4)), generation $((path % 4))"
+done
+poke passed_over 16 "$(spare_of 001 4 376)"
+expect 0 "boot: 2 blocks mapped, 0 to erase" boot --spares passed_over
+# every block, in runs of those that hold the same
+blocks_of - - 0:1 - - - - 0:2 >runs
+poke runs 96 "$(spare_of 125 4)$(spare_of 126 4)"
+expect 0 "boot: 1 block mapped, 1 to erase" boot --spares --all runs
+sed -n '2,/^boot/p' out >found
+cat >expected <<-END
+	blocks: 2 boot, 6 passed over
+	     5 free
+	     1 unknown tag
+	  blocks 0-1: free
+	  block 2: boot 0, generation 1
+	  block 3: first page unknown tag 55,
+	    last page unknown tag 56
+	  blocks 4-6: free
+	  block 7: boot 0, generation 2
+	boot: 1 block mapped, 1 to erase
+END
+check "every block is told" cmp expected found
+
+# a number that is missing, but stands on a page that is passed over
+blocks_of 0:0 1:2 2:0 >nearly
+poke nearly 48 "$erased"
+expect 1 "  boot 1 is missing; the highest found is boot 2, in block 2" boot --spares nearly
+says "  block 1 is passed over: first page boot 1, generation 2,"
+says "    last page erased"
+poke nearly 32 "$(spare_of 037 5)$(spare_of 037 5)"
+expect 1 "  block 1 is passed over: boot-copying 1, generation 1" boot --spares nearly
+poke nearly 32 "$(spare_of 037 8)$(spare_of 001 12)"
+expect 1 "  boot 1 is missing" boot --spares nearly
+says_not "is passed over"
+
+# none at all
+blocks_of - - - >none_of_three
+expect 0 "boot: there is no boot block: nothing is mapped, and nothing to erase" boot --spares none_of_three
+says "blocks: 0 boot, 3 passed over"
+ff $((1024 * 32)) >erased_spares
+expect 0 "boot: there is no boot block" boot --spares erased_spares
+says "dump: 1024 blocks"
+ff 16896 >erased_block
+expect 0 "boot: there is no boot block" boot erased_block
+says "dump: 1 block (by its size), 32 pages a block (assumed)"
+
+# files of the wrong size, and wrong arguments
+expect 2 "empty: is empty; expected blocks of 16896 bytes, 32 pages of 528" boot empty
+expect 2 "empty: is empty; expected blocks of 32 bytes, 2 spares of 16" boot --spares empty
+ff 33791 >short_blocks
+expect 2 "short_blocks: ends at offset 33791, inside block 1; expected whole blocks of 16896 bytes, 32 pages of 528 (" \
+	boot short_blocks
+check "the refusal is named" grep -qF -e "(refusal 1: a lent buffer has the wrong length)" err
+ff $((3 * 8448)) >three_blocks
+expect 2 "three_blocks: ends at offset 25344, inside block 1; expected whole blocks of 16896 bytes, 32 pages of 528; --pages" \
+	boot three_blocks
+check "the complaint tells what fits" grep -qF -e "; --pages-per-block 16 would fit (refusal 1: a lent buffer" err
+expect 2 "inside block 6; expected whole blocks of 3696 bytes, 7 pages of 528; --pages-per-block 16 would fit (refusal 1" \
+	boot --pages-per-block 7 three_blocks
+expect 2 "inside block 0; expected whole blocks of 16896 bytes, 32 pages of 528; --spares would fit (refusal 1" boot mixed
+ff 33 >short_spares
+expect 2 "short_spares: ends at offset 33, inside block 1; expected whole blocks of 32 bytes, 2 spares of 16 (refusal 1" \
+	boot --spares short_spares
+ff $((1025 * 32)) >many_spares
+expect 2 "many_spares: has 32800 bytes, 1025 blocks of 2 spares of 16; expected at most 1024 blocks (refusal 2: a number" \
+	boot --spares many_spares
+ff $((1056 * 528)) >many_blocks
+expect 2 "1056 blocks of 1 page of 528; expected at most 1024 blocks; --pages-per-block 32 would fit (refusal 2" \
+	boot --pages-per-block 1 many_blocks
+expect 0 "dump: 33 blocks" boot many_blocks
+expect 2 "--pages-per-block 16: expected it without --spares, as spares alone have no pages" \
+	boot --spares --pages-per-block 16 mixed
+for pages in 0 1025 -8; do
+	expect 2 "boot: --pages-per-block $pages: out of range, expected a number from 1 to 1024" \
+		boot --pages-per-block=$pages mixed_dump
+done
+for option in --all --spares --json "--pages-per-block 32"; do
+	expect 2 "boot: ${option%% *}: is given twice; expected it once" boot $option $option mixed_dump
+done
+expect 2 "--pages: no such option; --pages-per-block has to be named in full" boot --pages 32 mixed_dump
+expect 2 "--blocks: no such option" boot --blocks 8 mixed_dump
+expect 2 "boot: no file; expected DUMP as the last argument" boot --spares
+expect 2 "missing: cannot be read" boot missing
+piped 0 "boot: 4 blocks mapped, 0 to erase" mixed_dump boot -
+piped 0 "boot: 4 blocks mapped, 0 to erase" mixed boot --spares -
+piped 1 "boot: refused, 13" missing_zero boot --spares -
+piped 2 "standard input: ends at offset 256, inside block 0" mixed boot -
+
 # ---- JSON
 
 # A run with --json, and what Python says of the value d that it gives.
@@ -1366,6 +1652,36 @@ if command -v python3 >/dev/null && python3 -c 'import json' 2>/dev/null; then
 	has "d['refusal']['number'] == 2" "d['count'] == 262143"
 	json 1 page erased_page
 	has "d['refusal']['number'] == 5" "d['detail'] == 'the page is erased, all FF'"
+	json 0 boot pairs_dump
+	has "d['command'] == 'boot'" "d['dump'] == {'name': 'pairs_dump', 'size': 101376, 'blocks': 6, 'spares_alone': False,
+		'pages_per_block': 32, 'pages_per_block_told': False}" "d['warnings'] == []" "d['refusal'] is None" \
+		"[(b['block'], b['boot_number'], b['generation'], b['path']) for b in d['boot_blocks']] == [
+			(0, 2, 3, 11), (1, 1, 1, 5), (2, 2, 0, 8), (4, 0, 0, 0), (5, 1, 2, 6)]" \
+		"[b['address'] for b in d['boot_blocks']] == [0, 16384, 32768, 65536, 81920]" \
+		"d['passed_over'] == [{'why': 'free', 'blocks': 1}]" "d['mapped'] == [4, 1, 0]" "d['erase'] == [5, 2]" \
+		"d['blocks'][3] == {'first': 3, 'last': 3, 'counts': False, 'first_page': 'free', 'last_page': 'free'}" \
+		"len(d['blocks']) == 6"
+	json 0 boot --spares runs
+	has "d['dump'] == {'name': 'runs', 'size': 256, 'blocks': 8, 'spares_alone': True}" \
+		"'address' not in d['boot_blocks'][0]" "[(b['first'], b['last'], b['counts']) for b in d['blocks']] == [
+			(0, 1, False), (2, 2, True), (3, 3, False), (4, 6, False), (7, 7, True)]" \
+		"d['blocks'][2]['first_page'] == 'unknown tag 55'" "d['blocks'][2]['last_page'] == 'unknown tag 56'" \
+		"d['passed_over'] == [{'why': 'free', 'blocks': 5}, {'why': 'unknown tag', 'blocks': 1}]"
+	flaws 4 6 1 18 20
+	json 0 boot --spares flawed
+	has "[(b['repairs_first'], b['repairs_last']) for b in d['boot_blocks']] == [(3, 2), (0, 0)]"
+	json 1 boot --spares missing_more
+	has "d['refusal']['number'] == 13" "d['boot_number'] == 3" "d['held_by'] == []" "'mapped' not in d" "'erase' not in d" \
+		"max(b['boot_number'] for b in d['boot_blocks']) == 5"
+	json 1 boot --spares three
+	has "d['boot_number'] == 0" "d['held_by'] == [0, 1, 2, 3]" "[b['generation'] for b in d['boot_blocks']] == [3, 0, 3, 0]"
+	json 1 boot --spares missing_most
+	has "d['boot_number'] == 1" "d['boot_blocks'][1]['boot_number'] == 16777215"
+	json 0 boot --spares none_of_three
+	has "d['mapped'] == []" "d['erase'] == []" "d['boot_blocks'] == []" "d['refusal'] is None"
+	"$ream" boot --json mixed_dump_16 >out 2>err
+	check "a warning is on the standard error" grep -q "^ream: warning: mixed_dump_16: with 32 pages a block" err
+	has "d['warnings'][0].endswith('but with 16 (8 blocks) 4 would be (--pages-per-block)')" "d['mapped'] == []"
 	# wrong arguments and warnings stay on the standard error
 	"$ream" pair $chip --json missing >out 2>err
 	check "nothing but JSON is on the standard output" [ ! -s out ]
@@ -1577,7 +1893,7 @@ done
 
 # ---- help, and the manual
 
-for command in pair update recover page simulate; do
+for command in pair update recover page boot simulate; do
 	expect 0 "usage: ream $command" $command --help
 	expect 0 "usage: ream $command" $command --help --nonsense
 	expect 0 "usage: ream $command" $command -h
@@ -1591,7 +1907,7 @@ expect 0 "usage: ream COMMAND" --help
 expect 0 "usage: ream COMMAND" -h
 expect 0 "usage: ream COMMAND" help
 expect 2 "pear: no such command" help pear
-expect 0 "ream 3.0" --version
+expect 0 "ream 3.1" --version
 
 check "no temporary file is left" test -z "$(find . -name '*.??????')"
 
@@ -1620,6 +1936,9 @@ sed -n '/^failed: step 2/,/^\.EE/p' "$manual" | sed '/^\.EE/d' | plain >printed
 expect 0 "update: 3 steps" update --blocks 1024 --mark-late 17 --failed 2 --pages anew_steps region.bin
 sed -n '/^failed: /,/^  a zero/p' out >found
 check "the manual prints the plan after a failed step as it is" cmp printed found
+sed -n '/^dump: 2 blocks/,/^\.EE/p' "$manual" | sed '/^\.EE/d' | plain >printed
+blocks_of 0:0 0:1 | "$ream" boot --spares - >found
+check "the manual prints the map of boot blocks as it is" cmp printed found
 sed -n '/^\.EX/,/^\.EE/p' "$manual" | plain | awk '/^# (nanddump|flash_erase|nandwrite|mtdpart) / { on = 1 }
 	on { print } !/\\$/ { on = 0 }' | sed 's|^# ||; s|/dev/mtd[0-9]|no_chip|' >chip_commands
 check "the manual has the commands for a chip" [ "$(grep -c '^[a-z]' chip_commands)" -eq 11 ]

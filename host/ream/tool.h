@@ -22,6 +22,7 @@ enum exit_status pair_command(int argc, char **argv);
 enum exit_status update_command(int argc, char **argv);
 enum exit_status recover_command(int argc, char **argv);
 enum exit_status page_command(int argc, char **argv);
+enum exit_status boot_command(int argc, char **argv);
 enum exit_status simulate_command(int argc, char **argv);
 
 /* The refusals that an argument or a file of the wrong kind comes to, to stand in a complaint. */
@@ -30,6 +31,9 @@ enum exit_status simulate_command(int argc, char **argv);
 
 /* Says what is wrong, in a line after "ream: ". */
 void complain(const char *format, ...);
+
+/* Prints a text after a word and a colon, broken at blanks into lines of at most 80 columns. */
+void print_broken(const char *word, const char *format, ...);
 
 /* Tells the refusal in the library's answer, with its number and in words. */
 enum exit_status print_refusal(const char *what, unsigned refusal);	/* gives EXIT_REFUSED */

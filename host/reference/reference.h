@@ -1,7 +1,7 @@
 /*
  * The entries of the library once more, written straight from documents 01 and 02 for the host programs to
- * compare with: the small chip's in small.c, the large chip's in large.c and failed.c. Parameters and
- * answers are those of the entries in include/reamsickle.h.
+ * compare with: the small chip's in small.c and boot.c, the large chip's in large.c and failed.c. Parameters
+ * and answers are those of the entries in include/reamsickle.h.
  */
 #ifndef REFERENCE_H
 #define REFERENCE_H
@@ -18,6 +18,9 @@ uint64_t ref_spare_read(const uint8_t *spare, size_t spare_len, uint8_t *fields,
 
 uint64_t ref_page_read(uint8_t *data, size_t data_len, const uint8_t *spare, size_t spare_len,
 		       uint8_t *fields, size_t fields_len);
+
+uint64_t ref_boot_map(uint64_t number, const uint8_t *spares, size_t spares_len, uint8_t *mapped, size_t mapped_len,
+		      uint8_t *erased, size_t erased_len);
 
 uint64_t ref_first_bitmap(uint64_t n, uint64_t size, const uint8_t *marks, size_t marks_len, uint8_t *bitmap,
 			  size_t bitmap_len);

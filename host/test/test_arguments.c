@@ -1,12 +1,13 @@
 /*
  * Arguments that are wrong, of every entry: numbers of blocks, sizes of the region, lengths and status bytes, each
- * alone and all together with what is wrong in a region. Refusals come exactly where they have to, in document
- * 01's order.
+ * alone and all together with what is wrong in a region or among boot blocks. Refusals come exactly where they have
+ * to, in document 01's order.
  */
 #include "tests.h"
 
 #include <string.h>
 
+#include "boots.h"
 #include "draw.h"
 #include "lengths.h"
 #include "outcomes.h"
@@ -143,6 +144,43 @@ static void try_numbers_of_blocks(struct test *test)
 	}
 }
 
+/* Numbers of small-chip blocks, from 0 on and far too large. What is too large is refused with lengths that go with it,
+ * with those of as many blocks as there can be, and with none. */
+static void try_small_numbers(struct test *test)
+{
+	static const uint64_t too_large[] = {
+		1025, 1026, 1027, 1028, 1056, 1088, 1152, 1280, 1536, 2046, 2047, 2048, 2049, 3072, 4096, 8192, 32767,
+		32768, 65535, 65536, 65537, 65538, 66559, 66560, UINT32_MAX, (uint64_t)1 << 32, ((uint64_t)1 << 32) + 1,
+		((uint64_t)1 << 32) + 2, ((uint64_t)1 << 32) + 1024, (uint64_t)1 << 48, ((uint64_t)1 << 48) + 2,
+		((uint64_t)1 << 59) + 1, (uint64_t)1 << 60, (uint64_t)1 << 63, ((uint64_t)1 << 63) + 1,
+		((uint64_t)1 << 63) + 1024, UINT64_MAX - 1024, UINT64_MAX - 1, UINT64_MAX,
+	};
+	struct boots boots;
+
+	test->trying = "numbers of small-chip blocks";
+	for (uint64_t number = 0; number <= 1200; number++) {
+		if ((number > 40 && number % 128 > 2 && number % 128 < 126) || left_out(test))
+			continue;
+		call_begin_small(test, BOOT_MAP, number);
+		memset(test->call.bytes[0], 0xFF, lent_held(test->call.len[0]));
+		call_compare(test);
+		expect_answer(test, number <= 1024 ? REAM_OK : REAM_RANGE, "up to 1,024 blocks are taken");
+	}
+	boots_begin(test, &boots, MOST_BOOTS, RISING);
+	boots_lay(test, &boots, 1, 0);
+	for (unsigned i = 0; i < sizeof(too_large) / sizeof(too_large[0]); i++) {
+		for (unsigned lengths = 0; lengths < 3; lengths++) {
+			boots_set_up(test, BOOT_MAP, &boots);
+			test->call.number[0] = too_large[i];
+			for (unsigned k = 0; k < 3 && lengths > 0; k++)
+				test->call.len[k] = lengths == 1 ? 0 : entries[BOOT_MAP].buffer[k].len *
+						    (size_t)too_large[i];
+			call_compare(test);
+			expect_answer(test, REAM_RANGE, "more are refused, whatever the lengths are");
+		}
+	}
+}
+
 /* ---- lengths */
 
 static void try_page_lengths(struct test *test)
@@ -155,12 +193,33 @@ static void try_page_lengths(struct test *test)
 	bad.count = REAM_COUNT_MAX + 1;
 	memset(bad.spare, 0x55, 16);
 	for (unsigned i = 0; i < ENTRIES; i++) {
-		if (has_number((enum entry_index)i, "n"))
+		if (has_number((enum entry_index)i, "n") || has_number((enum entry_index)i, "number"))
 			continue;
 		test->trying = "lengths, nothing else wrong";
 		try_lengths(test, (enum entry_index)i, page_call, &good);
 		test->trying = "lengths, all else wrong too";
 		try_lengths(test, (enum entry_index)i, page_call, &bad);
+	}
+}
+
+/* With as many blocks as there can be, and with few; in order, and with a boot number missing. */
+static void try_boot_lengths(struct test *test)
+{
+	static const unsigned numbers[] = { 0, 1, 2, 3, 1024 };
+	struct boots boots;
+
+	for (unsigned i = 0; i < sizeof(numbers) / sizeof(numbers[0]); i++) {
+		test->trying = "lengths, nothing else wrong";
+		boots_begin(test, &boots, numbers[i], RISING);
+		if (boots.used < boots.number)
+			boots_one(test, &boots, 0);
+		expect_boots(test, &boots);
+		try_lengths(test, BOOT_MAP, boots_set_up, &boots);
+		test->trying = "lengths, all else wrong too";
+		boots_begin(test, &boots, numbers[i], RISING);
+		if (boots.used < boots.number)
+			boots_lay(test, &boots, 1, 0);
+		try_lengths(test, BOOT_MAP, boots_set_up, &boots);
 	}
 }
 
@@ -302,6 +361,38 @@ static void try_ranks(struct test *test, struct scene *scene, enum entry_index i
 		expect_answer(test, REAM_RANGE, "then the status bytes");
 }
 
+/* A number, a length or both wrong, beside boot blocks that are in order or are not. */
+static void try_boot_order(struct test *test)
+{
+	struct boots boots;
+
+	test->trying = "all faults with all others, of boot blocks";
+	for (unsigned i = 0; i < 2 * WRONGS * 4 * 3; i++) {
+		const bool wrong_set = i % 2 != 0, wrong_number = i / 2 % 2 != 0, wrong_length = i / 4 % 2 != 0;
+		const unsigned number = 12, buffer = i / 8 % 3;
+
+		boots_begin(test, &boots, number, SHUFFLED);
+		boots_one(test, &boots, 1);
+		if (wrong_set)
+			boots_wrong(test, &boots, (enum wrong)(i / 24));
+		boots_pair(test, &boots, 3);
+		boots_set_up(test, BOOT_MAP, &boots);
+		if (wrong_number)
+			test->call.number[0] += 65536;
+		if (wrong_length)
+			test->call.len[buffer] -= 1;
+		call_compare(test);
+		if (wrong_number)
+			expect_answer(test, REAM_RANGE, "the number of blocks is judged first");
+		else if (wrong_length)
+			expect_answer(test, REAM_LENGTH, "then the lengths");
+		else if (wrong_set)
+			expect_answer(test, refusal(REAM_BOOT_SET, 1), "then the boot blocks");
+		else
+			expect_answer(test, refusal(REAM_OK, 2) | 1 << 24, "nothing is wrong");
+	}
+}
+
 static void try_order(struct test *test, struct scene *scene)
 {
 	test->trying = "all faults with all others";
@@ -329,9 +420,12 @@ void test_arguments(struct test *test, struct scene *scene)
 	try_chips(test);
 	try_wrong_numbers(test, scene);
 	try_numbers_of_blocks(test);
+	try_small_numbers(test);
 	try_page_lengths(test);
+	try_boot_lengths(test);
 	try_region_lengths(test, scene);
 	try_lengths_of_other_chips(test, scene);
 	try_status_bytes(test, scene);
+	try_boot_order(test);
 	try_order(test, scene);
 }

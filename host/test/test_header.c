@@ -1,6 +1,6 @@
 /*
- * The header itself: its version, the sizes of buffers, entries of bitmaps, steps, the texts of refusals, and the
- * functions for pointers that may be null, for which each such pointer is a buffer of no bytes.
+ * The header itself: its version, the sizes of buffers, entries of bitmaps, steps, boot blocks, the texts of
+ * refusals, and the functions for pointers that may be null, for which each such pointer is a buffer of no bytes.
  */
 #include "tests.h"
 
@@ -100,18 +100,37 @@ static void try_steps_of_plans(struct test *test)
 	       "room for 11 steps, and for a list of failed steps");
 }
 
+/* Paths of boot pages, lists of boot blocks, and the answer of ream_boot_map(), taken apart. */
+static void try_boot_blocks(struct test *test)
+{
+	static const uint8_t list[6] = { 0x00, 0x07, 0x03, 0xFF, 0x01, 0x00 };
+
+	test->trying = "the header's boot blocks";
+	expect(test, REAM_SMALL_BLOCKS_MAX == 1024 && REAM_BOOT_SPARES_SIZE == 32 && REAM_BOOT_BLOCK_SIZE == 2,
+	       "the most blocks, and the sizes of one");
+	expect(test, ream_boot_number(6) == 1 && ream_boot_generation(6) == 2 &&
+	       ream_boot_number(REAM_PATH_MAX) == 0xFFFFFF && ream_boot_generation(REAM_PATH_MAX) == 3,
+	       "the boot number and the generation of a path");
+	expect(test, ream_boot_block(list, 0) == 7 && ream_boot_block(list, 1) == 1023 &&
+	       ream_boot_block(list, 2) == 256, "the blocks of a list");
+	expect(test, ream_mapped_count(0x0201040300) == 0x0403 && ream_erased_count(0x0201040300) == 0x0201,
+	       "the counts of both lists");
+	expect(test, ream_refusal(0xFEDCBA0D) == REAM_BOOT_SET && ream_detail(0xFEDCBA0D) == 0xFEDCBA &&
+	       ream_detail(0x0203) == REAM_LATE && ream_detail(0x0106) == REAM_FIRST_HALF, "the details of refusals");
+}
+
 /* Each refusal has a text of its own, and no other number has. */
 static void try_texts(struct test *test)
 {
 	const char *unknown = ream_refusal_text(UINT32_MAX);
 
 	test->trying = "the header's texts";
-	expect(test, REAM_NO_TARGET == 11 && REAM_ZERO_FAILED == 12, "the last refusals are 11 and 12");
+	expect(test, REAM_ZERO_FAILED == 12 && REAM_BOOT_SET == 13, "the last refusals are 12 and 13");
 	for (unsigned refusal = 0; refusal < 300; refusal++) {
 		const char *text = ream_refusal_text(refusal);
 
-		expect(test, (strcmp(text, unknown) == 0) == (refusal > REAM_ZERO_FAILED), "the refusals have texts");
-		for (unsigned other = 0; other < refusal && refusal <= REAM_ZERO_FAILED; other++)
+		expect(test, (strcmp(text, unknown) == 0) == (refusal > REAM_BOOT_SET), "the refusals have texts");
+		for (unsigned other = 0; other < refusal && refusal <= REAM_BOOT_SET; other++)
 			expect(test, strcmp(text, ream_refusal_text(other)) != 0, "no two have the same");
 	}
 }
@@ -153,6 +172,37 @@ static void try_null_in_pages(struct test *test)
 	expect(test, answer == REAM_OK && memcmp(code, page.spare + 13, 3) == 0 &&
 	       memcmp(spare, page.spare, 16) == 0 && ream_fields_get(fields).path == page.path,
 	       "with no null pointer the checked functions are the entries");
+}
+
+/* Of the map of boot blocks. With no block its buffers have no bytes, so that all of them may be null. */
+static void try_null_in_boot_map(struct test *test)
+{
+	uint8_t spares[2][2][16], mapped[4] = { 0x5A, 0x5A, 0x5A, 0x5A }, erased[4] = { 0x5A, 0x5A, 0x5A, 0x5A };
+	const uint8_t *lent = spares[0][0];
+	struct page page = page_filled(test, 0);
+	bool refused;
+
+	test->trying = "null pointers in mapping boot blocks";
+	page.tag = REAM_TAG_BOOT;
+	for (unsigned i = 0; i < 4; i++) {
+		page.path = i / 2;
+		page_write(test, &page);
+		memcpy(spares[i / 2][i % 2], page.spare, 16);
+	}
+	refused = ream_boot_map_checked(2, NULL, 64, mapped, 4, erased, 4) == REAM_LENGTH &&
+		  ream_boot_map_checked(2, lent, 64, NULL, 4, erased, 4) == REAM_LENGTH &&
+		  ream_boot_map_checked(2, lent, 64, mapped, 4, NULL, 4) == REAM_LENGTH &&
+		  ream_boot_map_checked(1, NULL, 0, NULL, 0, NULL, 0) == REAM_LENGTH &&
+		  ream_boot_map_checked(0, NULL, 0, mapped, 4, NULL, 0) == REAM_LENGTH;
+	expect(test, refused, "a null pointer is refused as a wrong length");
+	expect(test, ream_boot_map_checked(1025, NULL, 0, NULL, 0, NULL, 0) == REAM_RANGE,
+	       "a wrong number of blocks is refused before a null pointer");
+	expect(test, memcmp(mapped, "\x5A\x5A\x5A\x5A", 4) == 0 && memcmp(erased, mapped, 4) == 0,
+	       "a call refused for a null pointer changes nothing");
+	expect(test, ream_boot_map_checked(0, NULL, 64, NULL, 4, NULL, 4) == REAM_OK, "no block needs no buffer");
+	expect(test, ream_boot_map_checked(2, lent, 64, mapped, 4, erased, 4) == (1 << 8 | 1 << 24) &&
+	       memcmp(mapped, "\x00\x00\x5A\x5A", 4) == 0 && memcmp(erased, "\x00\x01\x5A\x5A", 4) == 0,
+	       "with no null pointer the checked function is the entry");
 }
 
 /* The large chip's entries that plan and give pages, with all lengths as named, on a chip of 12 blocks, 6 of them its
@@ -311,8 +361,10 @@ void test_header(struct test *test, struct scene *scene)
 	try_sizes_of_buffers(test);
 	try_entries_of_bitmaps(test);
 	try_steps_of_plans(test);
+	try_boot_blocks(test);
 	try_texts(test);
 	try_null_in_pages(test);
+	try_null_in_boot_map(test);
 	try_null_in_regions(test, scene);
 	try_null_in_planning(test, scene);
 	try_null_in_asking(test, scene);

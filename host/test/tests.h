@@ -16,6 +16,9 @@ void test_spare_write(struct test *test);
 void test_spare_read(struct test *test);
 void test_page_read(struct test *test);
 
+/* Blocks of the small chip, made to order (boots.h). */
+void test_boot_map(struct test *test);
+
 /* The large chip's, on regions that are settled, damaged in every way or senseless (scenes.h). */
 void test_first_bitmap(struct test *test, struct scene *scene);
 void test_pair(struct test *test, struct scene *scene);

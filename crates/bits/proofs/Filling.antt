@@ -1,12 +1,12 @@
 -- Laws of a loop that stores f i at each place i: after i turns the list is what f builds, and then what was there. For any f.
 -- Assumes nothing.
-use mathlib.Core.Path.{_≡_, refl, sym, _∙_}
+use mathlib.Core.Path.{_≡_, refl, sym, _∙_, ap}
 use mathlib.Core.List.{List, [], _∷_, _++_, append-nil}
 use Prim.Native.Nat.{ℕ, zero, suc, _+_, _<_}
 use native.Mathlib.Numerals.{add-one}
 use native.Mathlib.Omega.{arith}
 use borrow.Author.Tests.{eq-eqb}
-use lib.ListN.{length, getD, drop, set, take, length-append}
+use lib.ListN.{length, getD, drop, set, take, replicate, length-append, replicate-append-replicate}
 use lib.Seq.{append-snoc, drop-cons, drop-length, set-at, take-length, take-suc}
 use Rattle.bits.specs.Bytes.{build, copied}
 
@@ -40,6 +40,13 @@ build-take l (suc n) h = rw (build-take l n (omega arith)) (sym (take-suc l n 0 
 
 pub build-self : (l : List ℕ) → build (λ i. getD l i 0) (length l) ≡ l
 build-self l = build-take l (length l) (omega arith) ∙ take-length l
+
+-- what is built of one value
+pub build-replicate : (a n : ℕ) → build (λ i. a) n ≡ replicate n a
+unfolding build
+build-replicate a zero = refl
+build-replicate a (suc n) =
+    ap (λ (l : List ℕ). l ++ (a ∷ [])) (build-replicate a n) ∙ replicate-append-replicate n 1 a ∙ ap (λ (k : ℕ). replicate k a) (add-one n)
 
 -- a copy takes where the lengths are the same
 pub copied-same : (from to : List ℕ) → length to ≡ length from → copied from to ≡ from

@@ -1,12 +1,13 @@
 -- Document 01, "Path": for boot pages it is 4 × boot number + generation. A path tells both back.
-use mathlib.Core.Bool.{cond, _&&_}
+use mathlib.Core.Bool.{Bool, cond, _&&_}
 use mathlib.Core.List.{List, [], _∷_}
 use mathlib.Core.Logic.{_⊎_}
 use mathlib.Core.Path.{_≡_}
 use Prim.Native.Nat.{ℕ, _+_, _*_, _/_, _%_, _^_, _<_, _≤_}
-use lib.Dec.{leb, ltb}
+use lib.Dec.{eqb, leb, ltb}
 use Rattle.chip.specs.declared.BootAnswer.{BootAnswer}
 use Rattle.chip.specs.declared.BootAnswer.the-variants.{Boot, Refused as BootRefused}
+use Rattle.chip.specs.declared.Generation.{Generation}
 use Rattle.chip.specs.declared.PathAnswer.{PathAnswer}
 use Rattle.chip.specs.declared.PathAnswer.the-variants.{Path, Refused as PathRefused}
 use Rattle.chip.specs.declared.Refusal.the-variants.{Range}
@@ -18,7 +19,11 @@ pathOf boot generation = cond (ltb boot (2 ^ 24) && leb generation 3) (Path (4 *
 
 -- the boot number and the generation of a path below 2^26, or refusal 2
 unfoldable pub bootOf : ℕ → BootAnswer
-bootOf path = cond (ltb path (2 ^ 26)) (Boot (record { 0 = path / 4 }) (path % 4)) (BootRefused Range)
+bootOf path = cond (ltb path (2 ^ 26)) (Boot (record { 0 = path / 4 }) (record { 0 = path % 4 })) (BootRefused Range)
+
+-- source document 000, 3.4: the generation increments modulo 4 every time the boot block is copied
+abbrev pub follows : Generation → Generation → Bool
+follows newer older = eqb (newer .0) ((older .0 + 1) % 4)
 
 -- ---- document 01's number of each answer, 0 where nothing is refused, and its values
 -- the path; of a refusal, what comes with it
@@ -28,7 +33,7 @@ pathTold (PathRefused r) = (refusalNumber r, refusalDetail r ∷ [])
 
 -- the boot number and the generation; of a refusal, what comes with it
 abbrev pub bootTold : BootAnswer → ℕ × List ℕ
-bootTold (Boot b g) = (0, b .0 ∷ g ∷ [])
+bootTold (Boot b g) = (0, b .0 ∷ g .0 ∷ [])
 bootTold (BootRefused r) = (refusalNumber r, refusalDetail r ∷ [])
 
 -- ---- there and back
@@ -38,7 +43,7 @@ bootOfAnswer (Path p) = bootOf p
 bootOfAnswer (PathRefused r) = BootRefused r
 
 abbrev pub pathOfAnswer : BootAnswer → PathAnswer
-pathOfAnswer (Boot b g) = pathOf (b .0) g
+pathOfAnswer (Boot b g) = pathOf (b .0) (g .0)
 pathOfAnswer (BootRefused r) = PathRefused r
 
 pub record BootRoundTrip : Type 0 where

@@ -1,7 +1,7 @@
 // The two kinds of chip with their sizes, the numbers that must not be mixed, and the refusals.
 ghost use mathlib.Core.Path.{_≡_};
 ghost use Prim.Native.Nat.{_%_};
-ghost use Rattle.chip.specs.Boot.{pathOf, bootOf};
+ghost use Rattle.chip.specs.Boot.{pathOf, bootOf, follows};
 ghost use Rattle.chip.specs.Large.{isBlocks, isRegion, isChip, chipOf, bitmapBytes, pagesOf, regionPages, regionBytes};
 ghost use Rattle.chip.specs.Refusals.{refusalNumber, refusalDetail};
 
@@ -35,6 +35,9 @@ impl SmallChip {
     pub const MAGIC_WITH_NO_COUNT: u32 = SmallChip::MAGIC * SmallChip::COUNTS;
 
     pub const LAST_COUNT: u64 = 262142;
+
+    // The most blocks whose boot blocks are mapped at once.
+    pub const MOST_BLOCKS: u64 = 1024;
 
     // A boot number is below 2^24, its generation at most 3.
     pub const BOOTS: u32 = 16777216;
@@ -166,6 +169,9 @@ fn is_region(n: u64, size: u64) -> bool
 // The number of a boot block, as a path tells it. Never a chip block's number.
 pub struct BootNumber(pub u32);
 
+// How often a boot block was copied, modulo 4.
+pub struct Generation(pub u8);
+
 // The number of a block on its chip.
 pub struct ChipBlock(pub u32);
 
@@ -180,33 +186,41 @@ pub enum PathAnswer {
 
 // A path's boot number and generation, or its refusal.
 pub enum BootAnswer {
-    Boot(BootNumber, u8),
+    Boot(BootNumber, Generation),
     Refused(Refusal),
+}
+
+impl Generation {
+    // Is this the generation after another: one more, modulo 4?
+    pub fn follows(self, older: Generation) -> bool
+        ensures { λ r. ⌜ r ≡ follows self older ⌝ }
+    {
+        (self.0 as u32) == ((older.0 as u32) + 1) % 4
+    }
 }
 
 impl BootNumber {
     // The path of this boot number, below 2^24, and a generation from 0 to 3.
-    // Serves the map of boot blocks (request T-01), as `of_path` does; nothing but the examples uses either yet.
-    pub fn path(self, generation: u8) -> PathAnswer
-        ensures { λ r. ⌜ r ≡ pathOf (self .0) generation ⌝ }
+    pub fn path(self, generation: Generation) -> PathAnswer
+        ensures { λ r. ⌜ r ≡ pathOf (self .0) (generation .0) ⌝ }
     {
         if SmallChip::BOOTS <= self.0 {
             return PathAnswer::Refused(Refusal::Range);
         }
-        if SmallChip::LAST_GENERATION < generation {
+        if SmallChip::LAST_GENERATION < generation.0 {
             return PathAnswer::Refused(Refusal::Range);
         }
-        PathAnswer::Path(4 * self.0 + (generation as u32))
+        PathAnswer::Path(4 * self.0 + (generation.0 as u32))
     }
 
-    // The boot number and the generation of a path below 2^26. Serves the map of boot blocks (request T-01).
+    // The boot number and the generation of a path below 2^26.
     pub fn of_path(path: u32) -> BootAnswer
         ensures { λ r. ⌜ r ≡ bootOf path ⌝ }
     {
         if SmallChip::WORDS <= path {
             return BootAnswer::Refused(Refusal::Range);
         }
-        BootAnswer::Boot(BootNumber(path / 4), (path % 4) as u8)
+        BootAnswer::Boot(BootNumber(path / 4), Generation((path % 4) as u8))
     }
 }
 
@@ -222,7 +236,7 @@ pub enum Half {
     Second,
 }
 
-// The refusals of document 01.
+// The refusals of document 01 and of document 02, but for 13, which has a boot number with it (`boot::MapAnswer`).
 pub enum Refusal {
     Length,
     Range,

@@ -7,3 +7,4 @@ pub mod DriverCuts
 pub mod DriverReach
 pub mod BridgeToC
 pub mod Sizes
+pub mod BootMap

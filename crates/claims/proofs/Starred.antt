@@ -12,11 +12,13 @@ use Rattle.bbt.specs.Pairs.{same, signedOf, difference, bothCase, compared, cas
 use Rattle.bbt.specs.Plans.{readCase, reading, recoverCase}
 use Rattle.bits.specs.Bits.{bit, number, parityOf}
 use Rattle.bits.specs.Bytes.{wordBytes}
-use Rattle.chip.specs.Boot.{pathOf}
+use Rattle.boot.specs.Answers.{blockBytes}
+use Rattle.boot.specs.Mapping.{copies, standing, above, firstNot, smallestOut, listed, listOf, mapOf}
+use Rattle.chip.specs.Boot.{pathOf, bootOf}
 use Rattle.chip.specs.Large.{chipOf, isBlocks, isRegion}
 use Rattle.ecc.specs.Half.{placeBit, counts, parity, codeBit, codeFrom}
 use Rattle.hamming.specs.Word.{notPowers, houseNumbers, checkBit, checkBits, encoded}
-use Rattle.claims.specs.Examples.{Holds, path, count, no-tag, All, sizes, lastBlocks, table}
+use Rattle.claims.specs.Examples.{Holds, path, count, no-tag, All, maps, sizes, lastBlocks, table}
 use Rattle.spare.specs.Reading.{spareAnswer}
 use Rattle.spare.specs.Tags.{tags, nearest}
 use Rattle.spare.specs.Writing.{spareOf, magicAndCount}
@@ -40,9 +42,13 @@ unfolding spareCode spareAnswer
 no-tag-refused b e s fields long lf good at =
     rw (eq-eqb (length fields) 11 lf, eq-eqb (length s) 16 long, good, at, e) refl
 
+by-map : All maps
+unfolding mapOf smallestOut firstNot above standing copies listOf listed blockBytes bootOf
+by-map = ((refl, refl, refl), ((refl, refl, refl), ((refl, refl, refl), ((refl, refl, refl), ((refl, refl, refl), tt)))))
+
 by-size : All sizes
 unfolding tableCode tableAnswer tableReading lentReading regionLent statusesRight chipOf isBlocks isRegion lastBlocks reading readCase pairCase caseOf compared bothCase difference signedOf find also good all isPage sameKind pageVersion seen pageOf badPage badMark zeroOob pageBytes kindOf kindOfWord same pageImage partImage imageData imageTail chunk bitmapTable parts pagePart
-by-size = (refl, (refl, (refl, (refl, tt))))
+by-size = (refl, (refl, (refl, (refl, by-map))))
 
 pub starred : All table
 unfolding recoverCase signedOf difference bothCase compared bit number parityOf ones onesIn pathOf placeBit counts parity codeBit codeFrom notPowers houseNumbers checkBit checkBits encoded nearest

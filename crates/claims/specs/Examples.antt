@@ -1,5 +1,5 @@
--- Document 01, "Examples by number": those with a star, as one statement over one table; and pairs that a region of one size holds and of
--- another does not.
+-- Document 01, "Examples by number": those with a star, as one statement over one table; pairs that a region of one size holds and of another
+-- does not; and boot blocks with their map.
 use mathlib.Core.Bool.{cond}
 use mathlib.Core.List.{List, [], _∷_, _++_}
 use mathlib.Core.Path.{_≡_}
@@ -14,7 +14,12 @@ use Rattle.bbt.specs.Pages.{View}
 use Rattle.bbt.specs.Pairs.{difference, compared}
 use Rattle.bbt.specs.Plans.{refuse, recoverCase}
 use Rattle.bbt.specs.declared.Kind.the-variants.{Primary, Mirror}
-use Rattle.chip.specs.Boot.{pathOf}
+use Rattle.boot.specs.Answers.{listBy, mapTold}
+use Rattle.boot.specs.Counting.{countedBy}
+use Rattle.boot.specs.Mapping.{Blocks, listOf, mapOf}
+use Rattle.boot.specs.declared.Listing.{Listing}
+use Rattle.boot.specs.declared.Listing.the-variants.{ToMap, ToErase}
+use Rattle.chip.specs.Boot.{pathOf, bootOf}
 use Rattle.chip.specs.declared.LargeChip.{LargeChip}
 use Rattle.chip.specs.declared.PathAnswer.the-variants.{Path}
 use Rattle.chip.specs.declared.Refusal.the-variants.{Opposite}
@@ -49,6 +54,8 @@ pub data Example : Type 0 where
   opposite : ℕ → ℕ → Example
   -- the chip blocks of primary and mirror, a size of the region, and what ream_table_read answers
   pair : ℕ → ℕ → ℕ → ℕ → Example
+  -- the paths of boot blocks, the number and the values that their map answers, and the bytes that it writes to either list
+  boots : List ℕ → ℕ × List ℕ → List ℕ → List ℕ → Example
 
 abbrev pub countBytes : List ℕ → List ℕ
 countBytes s = getD s 6 0 ∷ getD s 7 0 ∷ getD s 11 0 ∷ getD s 12 0 ∷ []
@@ -73,6 +80,14 @@ unfoldable pub lastBlocks : ℕ → ℕ → ℕ → List ℕ
 lastBlocks primary mirror zero = []
 lastBlocks primary mirror (suc k) = blockOf primary mirror (15 - k) ++ lastBlocks primary mirror k
 
+-- blocks that count, with these paths
+abbrev pub counting : List ℕ → Blocks
+counting ps b = countedBy (bootOf (getD ps b 0))
+
+-- the bytes that their map writes to a list
+abbrev pub listWritten : Listing → List ℕ → List ℕ
+listWritten l ps = listBy (mapOf (counting ps) (length ps)) (listOf l (counting ps) (length ps)) []
+
 -- an example holds; of a path or a count whatever else is written with it, of a tag that is none whatever else a spare of a good block holds, of two versions whatever the bitmaps and the blocks
 abbrev pub Holds : Example → Type 0
 Holds (half bytes code) = codeBytes (codeOf bytes) ≡ code
@@ -85,10 +100,21 @@ Holds (entries byte es) = fourEntries (byte ∷ []) ≡ es
 Holds (versions p m d) = difference p m ≡ d
 Holds (opposite v w) = (chip : LargeChip) (R : View) (x y : List ℕ) (p m : ℕ) → recoverCase chip R (compared (versioned v x) (versioned w y) p m) ≡ refuse Opposite
 Holds (pair primary mirror size answer) = tableCode 16 size (lastBlocks primary mirror size) (replicate size 0) (replicate 4 0) ≡ answer
+Holds (boots ps told mapped erased) = (mapTold (mapOf (counting ps) (length ps)) ≡ told) × (listWritten ToMap ps ≡ mapped) × (listWritten ToErase ps ≡ erased)
 
 abbrev pub All : List Example → Type 0
 All [] = Unit {0}
 All (x ∷ xs) = Holds x × All xs
+
+-- boot 1 in generations 0 and 3, of which 3 is the older; in 0 and 2; three times; boot 1 alone; and no block
+abbrev pub maps : List Example
+maps =
+    boots (4 ∷ 0 ∷ 7 ∷ []) (0, 2 ∷ 1 ∷ []) (0x00 ∷ 0x01 ∷ 0x00 ∷ 0x02 ∷ []) (0x00 ∷ 0x00 ∷ [])
+    ∷ boots (4 ∷ 0 ∷ 6 ∷ []) (13, 1 ∷ []) [] []
+    ∷ boots (4 ∷ 0 ∷ 7 ∷ 6 ∷ []) (13, 1 ∷ []) [] []
+    ∷ boots (4 ∷ []) (13, 0 ∷ []) [] []
+    ∷ boots [] (0, 0 ∷ 0 ∷ []) [] []
+    ∷ []
 
 -- a table lying below the stated region is not found: of one copy there, a region of 4 finds the other alone, of two none
 abbrev pub sizes : List Example
@@ -97,7 +123,7 @@ sizes =
     ∷ pair 11 12 4 10
     ∷ pair 10 11 6 (0x100 + 0x10000 * 10 + 0x100000000 * 11)
     ∷ pair 10 11 4 7
-    ∷ []
+    ∷ maps
 
 abbrev pub table : List Example
 table =

@@ -6,3 +6,4 @@ pub mod Driver
 pub mod Found
 pub mod DriverCuts
 pub mod Sizes
+pub mod BootMap

@@ -2,8 +2,7 @@
 -- Assumes nothing.
 use mathlib.Core.List.{List, [], _∷_, _++_, append-assoc}
 use mathlib.Core.Path.{_≡_, refl, _∙_, ap, ap₂, sym}
-use Prim.Native.Nat.{ℕ, zero, suc, _+_, _-_, _≤_}
-use native.Mathlib.Numerals.{add-one}
+use Prim.Native.Nat.{ℕ, _+_, _-_, _≤_}
 use native.Mathlib.Omega.{arith}
 use borrow.Author.Tests.{eq-eqb, le-leb}
 use borrow.Rule.Slice.PartMut.{midOf, putMid}
@@ -13,15 +12,8 @@ use Rattle.bbt.specs.Images.{imageData, imageTail, partImage}
 use Rattle.bbt.specs.Pages.{kindWord}
 use Rattle.bbt.specs.declared.Kind.{Kind}
 use Rattle.bits.proofs.Filling.{copied-same}
-use Rattle.bits.specs.Bytes.{build, wordBytes, copied}
+use Rattle.bits.specs.Bytes.{wordBytes, copied}
 use Rattle.plan.specs.PageImages.{imageInto}
-
--- what is built of one value
-pub build-replicate : (a n : ℕ) → build (λ i. a) n ≡ replicate n a
-unfolding build
-build-replicate a zero = refl
-build-replicate a (suc n) =
-    ap (λ (l : List ℕ). l ++ (a ∷ [])) (build-replicate a n) ∙ replicate-append-replicate n 1 a ∙ ap (λ (k : ℕ). replicate k a) (add-one n)
 
 -- what was put in the middle of three parts stands between the others
 put-between : (x y z t : List ℕ) (a k : ℕ) → length x ≡ a → length y ≡ k → length t ≡ k

@@ -2,10 +2,13 @@
 -- each lent buffer holds afterwards. Every definition is at every input; a refused call leaves what was lent.
 use mathlib.Core.Bool.{Bool, cond, _&&_}
 use mathlib.Core.List.{List, [], _∷_}
-use Prim.Native.Nat.{ℕ, _+_, _*_}
+use Prim.Native.Nat.{ℕ, _+_, _*_, _^_}
 use lib.Dec.{eqb}
 use lib.ListN.{length}
 use Rattle.bits.specs.Bytes.{byteOf}
+use Rattle.boot.specs.Answers.{mapAnswer, orderNumber}
+use Rattle.boot.specs.declared.MapAnswer.{MapAnswer}
+use Rattle.boot.specs.declared.MapAnswer.the-variants.{Mapped, OutOfOrder, Refused as MapRefused}
 use Rattle.chip.specs.Refusals.{refusalNumber, refusalDetail}
 use Rattle.chip.specs.declared.Refusal.{Refusal}
 use Rattle.chip.specs.declared.Refusal.the-variants.{Length}
@@ -96,3 +99,12 @@ pageDataAfter bytes spare fields = cond (eqb (length fields) 11) (dataAfter byte
 
 unfoldable pub pageFieldsAfter : List ℕ → List ℕ → List ℕ → List ℕ
 pageFieldsAfter bytes spare fields = cond (eqb (length fields) 11) (pageFieldsBy (pageAnswer bytes spare) fields) fields
+
+-- ---- ream_boot_map: how many blocks are mapped in bits 8-23, and how many are to be erased in bits 24-39; refusal 13 with the boot number above
+abbrev pub mapCodeBy : MapAnswer → ℕ
+mapCodeBy (Mapped c) = 2 ^ 8 * c .mapped + 2 ^ 24 * c .erased
+mapCodeBy (OutOfOrder k) = orderNumber + 2 ^ 8 * k .0
+mapCodeBy (MapRefused r) = refusalCode r
+
+unfoldable pub mapCode : ℕ → List ℕ → List ℕ → List ℕ → ℕ
+mapCode n spares mapped erased = mapCodeBy (mapAnswer n spares mapped erased)

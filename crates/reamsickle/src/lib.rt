@@ -7,7 +7,8 @@ ghost use Rattle.bbt.specs.Plans.{for-update, for-recovery};
 ghost use Rattle.bbt.specs.Told.{stepsBy, retiredFirst, toldSteps};
 ghost use Rattle.bitmap.specs.Made.{firstAfter};
 ghost use Rattle.bits.specs.Bytes.{copied};
-ghost use Rattle.reamsickle.specs.Boundary.{refusalCode, fieldBytes, halfCode, halfCodeAfter, writeCode, spareCode, spareFieldsAfter, pageCode, pageDataAfter, pageFieldsAfter};
+ghost use Rattle.boot.specs.Answers.{listAfter};
+ghost use Rattle.reamsickle.specs.Boundary.{refusalCode, fieldBytes, halfCode, halfCodeAfter, writeCode, spareCode, spareFieldsAfter, pageCode, pageDataAfter, pageFieldsAfter, mapCode};
 ghost use Rattle.plan.specs.Answers.{planAnswer};
 ghost use Rattle.plan.specs.PageImages.{imageAfter};
 ghost use Rattle.reamsickle.specs.LargeBoundary.{firstCode, tableCode, stepBytes, stepsPut, planCodeBy, stepsPutBy, planCode, stepsAfter, roomOf, imageCodeBy, imageCode};
@@ -19,6 +20,8 @@ use bbt::Retired;
 use bbt::Shape;
 use bbt::Step;
 use bitmap::BitmapAnswer;
+use boot::Listing;
+use boot::MapAnswer;
 use chip::ChipAnswer;
 use chip::LargeChip;
 use chip::Refusal;
@@ -32,6 +35,9 @@ use spare::WriteAnswer;
 
 // Bits 0 to 7 of the answer of a call that was not refused.
 const ANSWERED: u64 = 0;
+
+// The same of the map of the boot blocks where a boot number is out of order.
+const OUT_OF_ORDER: u64 = 13;
 
 // The bytes that tell what a spare holds, and what a page holds.
 const SPARE_FIELDS: usize = SmallChip::FIELDS;
@@ -141,6 +147,27 @@ pub extern "C" fn ream_page_read(bytes: &mut [u8], spare: &[u8], fields: &mut [u
             let told = f.spare;
             put_fields(told, f.repairs(), fields);
             ANSWERED
+        }
+    }
+}
+
+// Maps the boot blocks among `number` blocks of the small chip: 32 spare bytes a block in, two lists of two bytes a block out.
+#[no_mangle]
+pub extern "C" fn ream_boot_map(
+    number: u64,
+    spares: &[u8],
+    mapped: &mut [u8],
+    erased: &mut [u8],
+) -> u64
+    ensures answer { λ r. ⌜ r ≡ mapCode number (now (spares .entry)) (now (mapped .entry)) (now (erased .entry)) ⌝ }
+    ensures mapped { λ _. ⌜ now (mapped .exit) ≡ listAfter Listing.ToMap number (now (spares .entry)) (now (mapped .entry)) (now (erased .entry)) (now (mapped .entry)) ⌝ }
+    ensures erased { λ _. ⌜ now (erased .exit) ≡ listAfter Listing.ToErase number (now (spares .entry)) (now (mapped .entry)) (now (erased .entry)) (now (erased .entry)) ⌝ }
+{
+    match boot::boot_map(number, spares, mapped, erased) {
+        MapAnswer::Refused(r) => refusal_code(r),
+        MapAnswer::OutOfOrder(k) => OUT_OF_ORDER + 256 * (k.0 as u64),
+        MapAnswer::Mapped(counts) => {
+            256 * (counts.mapped as u64) + 16777216 * (counts.erased as u64) + ANSWERED
         }
     }
 }

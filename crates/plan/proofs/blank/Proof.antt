@@ -4,8 +4,7 @@ use mathlib.Core.Path.{_≡_, refl, sym, _∙_}
 use Prim.Native.Nat.{ℕ, _≤_, _-_}
 use native.Mathlib.Omega.{arith}
 use lib.ListN.{length, length-set}
-use Rattle.bits.proofs.Filling.{filled, fill-start, fill-turn, fill-end}
-use Rattle.plan.proofs.Paging.{build-replicate}
+use Rattle.bits.proofs.Filling.{filled, fill-start, fill-turn, fill-end, build-replicate}
 use Rattle.plan.proofs.blank.Statement.{statement}
 use Rattle.plan.proofs.blank.Tie as tie
 

@@ -1,0 +1,15 @@
+pub mod Searching
+pub mod TwoCopies
+pub mod Fitting
+pub mod Joining
+pub mod Slots
+pub mod Keeping
+pub mod Putting
+pub mod Judging
+pub mod Gathered
+pub mod Carriers
+pub mod Copies
+pub mod Standings
+pub mod Listings
+pub mod Written
+pub mod Loader

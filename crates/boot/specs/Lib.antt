@@ -1,0 +1,5 @@
+pub mod Counting
+pub mod Mapping
+pub mod Slots
+pub mod Answers
+pub mod Loader
