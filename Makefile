@@ -15,6 +15,9 @@
 #   make fuzz           all entries under libFuzzer; not part of the gate
 #   make corpus         writes fuzz/corpus anew, the inputs that fuzzing starts from
 #   make valgrind       the example, the corpus, the simulator and the host test under valgrind; not part of the gate
+#   make library        the library alone; with TARGET, that of another target: docs/DRIVERS.md
+#   make stack          the stack that each entry takes, for every target
+#   make cross-test     the other targets' libraries: their code, the host test and the simulator; not part of the gate
 #   make install        the library with its header and pkg-config file, and the tool with its manual
 #   make uninstall      removes them again
 #   make clean          removes target/
@@ -28,6 +31,11 @@
 #   FUZZ_CC=clang FUZZ_TIME=60     of fuzz: the compiler, and for how many seconds
 #   VALGRIND_HISTORIES=200         of valgrind: how many histories the simulator runs
 #   VALGRIND_ROUNDS=50             of valgrind: of the host test's long trials one round in so many is made
+#   TARGET=                        of library: aarch64-linux-gnu, aarch64-kernel or x86_64-kernel; the archive is
+#                                  target/TARGET/libreamsickle.a. None: x86-64 Linux, target/staticlib/libreamsickle.a
+#   AARCH64=aarch64-linux-gnu-     of stack and cross-test: what the names of the compiler and binutils begin with
+#   QEMU=qemu-aarch64              of cross-test: what runs programs of AArch64
+#   CROSS_ROUNDS=1                 of cross-test: of the host test's long trials one round in so many is made
 
 CC ?= cc
 CFLAGS ?= -O2
@@ -229,3 +237,91 @@ valgrind: $(host)/example $(host)/replay $(host)/histories $(host)/host_test
 	$(VALGRIND) $(host)/replay fuzz/corpus/*
 	$(VALGRIND) $(host)/histories 1 $(VALGRIND_HISTORIES)
 	$(VALGRIND) $(host)/host_test $(VALGRIND_ROUNDS)
+
+# ---- other targets
+
+# One module, the one that $(library) is made from, compiled by other back ends of the same clang: see cross/archive.
+TARGET ?=
+targets := aarch64-linux-gnu aarch64-kernel x86_64-kernel
+archives := $(targets:%=target/%/libreamsickle.a)
+chosen := $(if $(filter-out $(targets),$(TARGET)),unknown-target,$(TARGET:%=target/%/libreamsickle.a))
+
+.PHONY: library unknown-target
+
+library: $(or $(chosen),$(library))
+
+unknown-target:
+	@echo 'make library: TARGET is $(TARGET), and can be one of: $(targets)'; exit 1
+
+target/module/module.ll: $(library) cross/keep-module
+	cross/keep-module
+
+$(archives): target/%/libreamsickle.a: target/module/module.ll cross/archive
+	cross/archive $* target/module target/$*
+
+# Bytes of stack, entry by entry and target by target.
+AARCH64 ?= aarch64-linux-gnu-
+all_archives := $(library) $(archives)
+
+.PHONY: stack
+
+stack: $(all_archives)
+	@cross/needs objdump $(AARCH64)objdump
+	@cross/stack $(all_archives)
+
+stack: export AARCH64 := $(AARCH64)
+
+# The host test and the simulator have to print for each target what they print for this one, to the byte; the simulator
+# prints a line for every event, with a checksum of the region. $(call told,FOLDER,RUNNER) runs both, and
+# $(call cross,TARGET,COMPILER,RUNNER) makes the rules of a target.
+QEMU ?= qemu-aarch64
+CROSS_ROUNDS ?= 1
+
+define told
+.PHONY: told-$(notdir $(1))
+
+told-$(notdir $(1)): $(1)/host_test $(1)/histories
+	$(2) $(1)/host_test $(CROSS_ROUNDS) > $(1)/host_test.txt
+	$(2) $(1)/histories --log > $(1)/histories.txt
+endef
+
+define cross
+target/$(1)/%.o: %.c $(headers)
+	@mkdir -p $$(@D)
+	$(2) $(WARNINGS) $(CFLAGS) $(FOLDERS) -c -o $$@ $$<
+
+target/$(1)/host_test: $(patsubst %.c,target/$(1)/%.o,$(wildcard host/test/*.c))
+target/$(1)/histories: $(patsubst %.c,target/$(1)/%.o,$(wildcard host/simulator/*.c))
+target/$(1)/host_test target/$(1)/histories: $(shared:%.c=target/$(1)/%.o) target/$(1)/libreamsickle.a
+	$(2) $(CFLAGS) -static -o $$@ $$(filter %.o,$$^) $$(filter %.a,$$^)
+
+$(call told,target/$(1),$(3))
+
+.PHONY: same-$(1)
+
+same-$(1): told-host told-$(1)
+	cmp $(host)/host_test.txt target/$(1)/host_test.txt
+	cmp $(host)/histories.txt target/$(1)/histories.txt
+	@tail -qn 1 target/$(1)/host_test.txt target/$(1)/histories.txt
+endef
+
+$(eval $(call told,$(host),))
+$(eval $(call cross,aarch64-linux-gnu,$(AARCH64)gcc,$(QEMU)))
+$(eval $(call cross,aarch64-kernel,$(AARCH64)gcc,$(QEMU)))
+$(eval $(call cross,x86_64-kernel,$(CC),))
+
+.PHONY: cross-test cross-code
+
+cross-test:
+	@cross/needs objdump $(AARCH64)gcc $(AARCH64)objdump $(QEMU)
+	$(MAKE) --no-print-directory cross-code $(targets:%=same-%)
+
+cross-code: $(all_archives)
+	cross/test_module.sh target/module $(library) $(targets:%=target/%)
+	cross/test_kernel.sh target/x86_64-kernel
+	cross/test_kernel.sh target/aarch64-kernel
+	cross/test_header.sh target/x86_64-kernel/libreamsickle.a $(CC)
+	cross/test_header.sh target/aarch64-kernel/libreamsickle.a $(AARCH64)gcc
+	cross/test_stack.sh $(all_archives)
+
+cross-code: export AARCH64 := $(AARCH64)

@@ -1,6 +1,8 @@
 /* Small-chip blocks built by a fuzzed input. */
 #include "blocks.h"
 
+#include <stdio.h>
+#include <stdlib.h>
 #include <string.h>
 
 #include "draw.h"
@@ -30,7 +32,11 @@ static void write_spare(uint8_t *spare, uint8_t tag, uint64_t path)
 {
 	static const uint8_t data[REAM_SMALL_DATA_SIZE];
 
-	ream_spare_write(data, sizeof(data), tag, path % (REAM_PATH_MAX + 1), COUNT, spare, SPARE);
+	if (!ream_ok(ream_spare_write(data, sizeof(data), tag, path % (REAM_PATH_MAX + 1), COUNT, spare, SPARE))) {
+		printf("fuzz: ream_spare_write refused a block that is lent\n");
+		fflush(stdout);
+		abort();
+	}
 }
 
 static void lay(uint8_t *spares, uint64_t path)

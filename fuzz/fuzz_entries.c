@@ -58,6 +58,9 @@ static const uint64_t small_blocks[] = {
 	8, 0, 1, 2, 3, 4, 5, 16, 40, 1023, 1024, 1025, 65536 + 8, ((uint64_t)1 << 32) + 8,
 };
 static const uint64_t steps[] = { 0, 1, 2, 3, 4, 5, 6, 7, 8, 9, 10, 11 };
+static const uint64_t kinds[] = { REAM_PRIMARY, REAM_MIRROR, 0, 3, 256 + 1, ((uint64_t)1 << 32) + 2 };
+static const uint64_t versions[] = { 0, 1, 5, 127, 128, 255, 256, 256 + 5, ((uint64_t)1 << 32) + 5 };
+static const uint64_t places[] = { 0, 1, 2, 3, 4, 256, (uint64_t)1 << 32, (uint64_t)1 << 53 };
 
 #define NUMBERS(of) of, sizeof(of) / sizeof(of[0])
 
@@ -72,6 +75,9 @@ static const struct {
 	{ "n", NUMBERS(blocks) },
 	{ "size", NUMBERS(sizes) },
 	{ "step", NUMBERS(steps) },
+	{ "kind", NUMBERS(kinds) },
+	{ "version", NUMBERS(versions) },
+	{ "place", NUMBERS(places) },
 	{ "number", NUMBERS(small_blocks) },
 };
 
@@ -264,7 +270,7 @@ static void run_input(struct fuzz *fuzz, struct input *input)
 	struct test *test = &fuzz->test;
 	const enum entry_index index = (enum entry_index)(take(input) % ENTRIES);
 	const uint8_t guards = take(input);
-	uint64_t number[MOST_NUMBERS] = { 0, 0, 0 };
+	uint64_t number[MOST_NUMBERS] = { 0 };
 	struct told told;
 
 	take_numbers(input, index, number);

@@ -142,6 +142,25 @@
  *   that a cut or failed erase or write leaves unreadable is lent with at least one OOB byte that is not 0: a
  *   driver that gets no bytes for such a page lends FF.
  *
+ * A chip's first pair of tables
+ *
+ *   On a new chip there is no table yet, and reading and planning refuse with REAM_NO_COPY. Its first pair is made in
+ *   six lines:
+ *
+ *	1  read the region; where ream_recovery_plan() does not refuse it with REAM_NO_COPY, go on at 6
+ *	2  choose a block of the region that is not readable as bad: the highest, so that it is the same each time
+ *	3  make the bitmap with ream_first_bitmap(), FF for the mark of the chosen block; choose a version
+ *	4  erase the block; for page 0 to P - 1 ask ream_table_page() for the primary's page, and write it there
+ *	5  if power was cut, start again at 1; if a step failed, do a zero step on its block and start again at 1
+ *	6  read the region, plan a recovery and carry it out: it writes the mirror
+ *
+ *   Wherever power is cut or a step fails in 4: as long as a page of the primary is not complete no copy is found,
+ *   REAM_NO_COPY, and the block is still not readable as bad. Once all are complete the primary is found alone. From
+ *   there on all that is said above of a settled pair holds: a recovery, carried out, settles on that bitmap with
+ *   that version; only where every other block of the region is readable as bad is it refused, with REAM_NO_TARGET.
+ *   A block is certainly not readable as bad if OOB byte 0 of its first page is not 0. Once the recipe has touched
+ *   a block, that byte is not the factory's mark any more: hence FF in line 3.
+ *
  * How to call
  *
  *   Every number is a uint64_t and is judged as a whole; none is cut to a smaller width. Every buffer
@@ -158,7 +177,8 @@
  *
  *   ream_refusal() and ream_detail() take it apart; ream_mapped_count(), ream_erased_count(), ream_version(),
  *   ream_primary_block(), ream_mirror_block() and ream_step_count() give the numbers of an answered call. To see
- *   whether a call was answered, compare ream_refusal() of the answer with REAM_OK, not the answer itself.
+ *   whether a call was answered, ask ream_ok(), and do not compare the answer itself with 0: where the compiler
+ *   can (gcc, clang), it warns of an answer that is dropped.
  *
  *   A refused call changes no lent byte, outputs included. Where several things are wrong at once the
  *   order of judging decides: N and size, or the number of small-chip blocks (2), then all lengths (1), then the
@@ -181,21 +201,40 @@
  *
  *   Buffers may stand at any address; none needs to be aligned.
  *
- * Link with libreamsickle.a; no other library is needed. Where `make install` has put both,
- * `pkg-config --cflags --libs reamsickle` prints the flags. Programs may be C, from C99 on, or C++.
+ * Link with libreamsickle.a; of other libraries it needs no more than memcpy() and memset(). Where `make install` has
+ * put both, `pkg-config --cflags --libs reamsickle` prints the flags. Programs may be C, from C99 on, or C++. The host
+ * has to be little endian, with 64-bit pointers; docs/DRIVERS.md has the targets, the stack that each entry takes, and
+ * what a kernel's driver has to know.
  */
 #ifndef REAMSICKLE_H
 #define REAMSICKLE_H
 
+#ifdef __KERNEL__
+#include <linux/types.h>
+#else
 #include <stddef.h>
 #include <stdint.h>
+#endif
+
+/* The host has 64-bit lengths and is little endian: the entries are compiled for no other. */
+typedef char ream_needs_a_host_with_64_bits[sizeof(size_t) == 8 ? 1 : -1];
+#if defined(__BYTE_ORDER__) && __BYTE_ORDER__ != __ORDER_LITTLE_ENDIAN__
+#error "libreamsickle.a is for little-endian hosts: see docs/DRIVERS.md"
+#endif
+
+/* Goes before a function whose answer has to be looked at. */
+#if defined(__GNUC__) || defined(__clang__)
+#define REAM_MUST_CHECK __attribute__((warn_unused_result))
+#else
+#define REAM_MUST_CHECK
+#endif
 
 /*
  * The library's own version, as text and as a number to compare: 10,000 * major + 100 * minor + patch.
  * (ream_version() gives that of a table or a plan.)
  */
-#define REAM_LIBRARY_VERSION "3.1"
-#define REAM_LIBRARY_VERSION_NUMBER 30100
+#define REAM_LIBRARY_VERSION "3.2"
+#define REAM_LIBRARY_VERSION_NUMBER 30200
 
 /* The refusals. */
 enum ream_refusal_number {
@@ -282,6 +321,12 @@ enum ream_step_kind {
 	REAM_ZERO = 2,		/* writes zeros to all 64 OOB bytes of a block's first page */
 };
 
+/* The two copies of the table. */
+enum ream_copy {
+	REAM_PRIMARY = 1,
+	REAM_MIRROR = 2,
+};
+
 /* The large chip's sizes: in bytes, where no other unit is named. */
 enum ream_large_size {
 	REAM_LARGE_DATA_SIZE = 2048,	/* a page's data */
@@ -312,6 +357,7 @@ extern "C" {
  *
  * Refuses REAM_LENGTH, and nothing else. half is never changed.
  */
+REAM_MUST_CHECK
 uint64_t ream_half_code(const uint8_t *half, size_t half_len, uint8_t *code, size_t code_len);
 
 /*
@@ -326,6 +372,7 @@ uint64_t ream_half_code(const uint8_t *half, size_t half_len, uint8_t *code, siz
  *
  * Refuses, in this order: REAM_LENGTH; REAM_RANGE (tag, path or count). data is never changed.
  */
+REAM_MUST_CHECK
 uint64_t ream_spare_write(const uint8_t *data, size_t data_len, uint64_t tag, uint64_t path, uint64_t count,
 			  uint8_t *spare, size_t spare_len);
 
@@ -348,6 +395,7 @@ uint64_t ream_spare_write(const uint8_t *data, size_t data_len, uint64_t tag, ui
  * Refuses, in this order: REAM_LENGTH; REAM_BAD_BLOCK with its kind; REAM_TAG; REAM_MAGIC (which is
  * the answer for an erased page, all FF). spare is never changed.
  */
+REAM_MUST_CHECK
 uint64_t ream_spare_read(const uint8_t *spare, size_t spare_len, uint8_t *fields, size_t fields_len);
 
 /*
@@ -366,6 +414,7 @@ uint64_t ream_spare_read(const uint8_t *spare, size_t spare_len, uint8_t *fields
  * REAM_UNREPAIRABLE with the half. data is changed only by a call that is answered, so no half is
  * repaired when the other is refused. spare is never changed.
  */
+REAM_MUST_CHECK
 uint64_t ream_page_read(uint8_t *data, size_t data_len, const uint8_t *spare, size_t spare_len,
 			uint8_t *fields, size_t fields_len);
 
@@ -403,6 +452,7 @@ uint64_t ream_page_read(uint8_t *data, size_t data_len, const uint8_t *spare, si
  * Refuses, in this order: REAM_RANGE (number); REAM_LENGTH; REAM_BOOT_SET with the boot number. spares is never
  * changed. The call keeps 4 KiB on the stack, whatever the number of blocks.
  */
+REAM_MUST_CHECK
 uint64_t ream_boot_map(uint64_t number, const uint8_t *spares, size_t spares_len, uint8_t *mapped, size_t mapped_len,
 		       uint8_t *erased, size_t erased_len);
 
@@ -417,6 +467,7 @@ uint64_t ream_boot_map(uint64_t number, const uint8_t *spares, size_t spares_len
  *
  * Refuses, in this order: REAM_RANGE (n or size); REAM_LENGTH. marks is never changed.
  */
+REAM_MUST_CHECK
 uint64_t ream_first_bitmap(uint64_t n, uint64_t size, const uint8_t *marks, size_t marks_len,
 			   uint8_t *bitmap, size_t bitmap_len);
 
@@ -435,6 +486,7 @@ uint64_t ream_first_bitmap(uint64_t n, uint64_t size, const uint8_t *marks, size
  * Refuses, in this order: REAM_RANGE (n or size); REAM_LENGTH; REAM_RANGE (a status byte); REAM_SEVERAL_COPIES;
  * REAM_NO_COPY; REAM_OPPOSITE; REAM_NOT_SETTLED. image and status are never changed.
  */
+REAM_MUST_CHECK
 uint64_t ream_table_read(uint64_t n, uint64_t size, const uint8_t *image, size_t image_len,
 			 const uint8_t *status, size_t status_len, uint8_t *bitmap, size_t bitmap_len);
 
@@ -477,6 +529,7 @@ uint64_t ream_table_read(uint64_t n, uint64_t size, const uint8_t *image, size_t
  * the end of its plan, so every number where the plan is empty); REAM_ZERO_FAILED (that of a zero step);
  * REAM_NO_TARGET. image, status, wanted and failed are never changed.
  */
+REAM_MUST_CHECK
 uint64_t ream_update_plan(uint64_t n, uint64_t size, const uint8_t *image, size_t image_len,
 			  const uint8_t *status, size_t status_len, const uint8_t *wanted, size_t wanted_len,
 			  const uint8_t *failed, size_t failed_len, uint8_t *steps, size_t steps_len);
@@ -514,6 +567,7 @@ uint64_t ream_update_plan(uint64_t n, uint64_t size, const uint8_t *image, size_
  * end of its plan, so every number where the plan is empty); REAM_ZERO_FAILED (that of a zero step);
  * REAM_NO_TARGET. image, status and failed are never changed.
  */
+REAM_MUST_CHECK
 uint64_t ream_recovery_plan(uint64_t n, uint64_t size, const uint8_t *image, size_t image_len,
 			    const uint8_t *status, size_t status_len, const uint8_t *failed, size_t failed_len,
 			    uint8_t *steps, size_t steps_len);
@@ -533,6 +587,7 @@ uint64_t ream_recovery_plan(uint64_t n, uint64_t size, const uint8_t *image, siz
  * Refuses, in this order: what ream_update_plan() refuses; REAM_RANGE (a step past the plan's end, or of an erase or
  * a zero step, so every step of an empty plan). image, status, wanted and failed are never changed.
  */
+REAM_MUST_CHECK
 uint64_t ream_update_page(uint64_t n, uint64_t size, const uint8_t *image, size_t image_len,
 			  const uint8_t *status, size_t status_len, const uint8_t *wanted, size_t wanted_len,
 			  const uint8_t *failed, size_t failed_len, uint64_t step, uint8_t *page, size_t page_len);
@@ -549,9 +604,28 @@ uint64_t ream_update_page(uint64_t n, uint64_t size, const uint8_t *image, size_
  * Refuses, in this order: what ream_recovery_plan() refuses; REAM_RANGE (a step past the plan's end, or of an erase
  * or a zero step, so every step of an empty plan). image, status and failed are never changed.
  */
+REAM_MUST_CHECK
 uint64_t ream_recovery_page(uint64_t n, uint64_t size, const uint8_t *image, size_t image_len,
 			    const uint8_t *status, size_t status_len, const uint8_t *failed, size_t failed_len,
 			    uint64_t step, uint8_t *page, size_t page_len);
+
+/*
+ * A page of a copy of any table, as it is written: for a chip's first primary, which no plan writes.
+ *
+ *	n	the number of blocks, N
+ *	size	the number of region blocks; it is judged, and changes nothing else here
+ *	bitmap	N/4 bytes, the table
+ *	kind	one of enum ream_copy
+ *	version	0 to 255
+ *	number	the page's number in the copy, 0 to P - 1
+ *	page	2,112 bytes, out: as of ream_update_page(), with this table, kind and version
+ *
+ * Refuses, in this order: REAM_RANGE (n or size); REAM_LENGTH; REAM_RANGE (kind, version or number). bitmap is never
+ * changed.
+ */
+REAM_MUST_CHECK
+uint64_t ream_table_page(uint64_t n, uint64_t size, const uint8_t *bitmap, size_t bitmap_len, uint64_t kind,
+			 uint64_t version, uint64_t number, uint8_t *page, size_t page_len);
 
 #ifdef __cplusplus
 }
@@ -561,6 +635,12 @@ uint64_t ream_recovery_page(uint64_t n, uint64_t size, const uint8_t *image, siz
 static inline unsigned ream_refusal(uint64_t answer)
 {
 	return (unsigned)(answer & 0xFF);
+}
+
+/* 1 where the call was answered, 0 where it was refused. */
+static inline int ream_ok(uint64_t answer)
+{
+	return ream_refusal(answer) == REAM_OK;
 }
 
 /* The detail of a refused call: enum ream_bad_block, enum ream_half, a boot number, or 0. */
@@ -761,6 +841,7 @@ static inline struct ream_step ream_step_get(const uint8_t bytes[REAM_STEP_SIZE]
  * of the order; only failed may have no bytes, so a null pointer there says that no step failed, and so may
  * the buffers of ream_boot_map() where number is 0.
  */
+REAM_MUST_CHECK
 static inline uint64_t ream_half_code_checked(const uint8_t *half, size_t half_len,
 					      uint8_t *code, size_t code_len)
 {
@@ -770,6 +851,7 @@ static inline uint64_t ream_half_code_checked(const uint8_t *half, size_t half_l
 			      code ? code : none, code ? code_len : 0);
 }
 
+REAM_MUST_CHECK
 static inline uint64_t ream_spare_write_checked(const uint8_t *data, size_t data_len,
 						uint64_t tag, uint64_t path, uint64_t count,
 						uint8_t *spare, size_t spare_len)
@@ -780,6 +862,7 @@ static inline uint64_t ream_spare_write_checked(const uint8_t *data, size_t data
 				spare ? spare : none, spare ? spare_len : 0);
 }
 
+REAM_MUST_CHECK
 static inline uint64_t ream_spare_read_checked(const uint8_t *spare, size_t spare_len,
 					       uint8_t *fields, size_t fields_len)
 {
@@ -789,6 +872,7 @@ static inline uint64_t ream_spare_read_checked(const uint8_t *spare, size_t spar
 			       fields ? fields : none, fields ? fields_len : 0);
 }
 
+REAM_MUST_CHECK
 static inline uint64_t ream_page_read_checked(uint8_t *data, size_t data_len,
 					      const uint8_t *spare, size_t spare_len,
 					      uint8_t *fields, size_t fields_len)
@@ -800,6 +884,7 @@ static inline uint64_t ream_page_read_checked(uint8_t *data, size_t data_len,
 			      fields ? fields : none, fields ? fields_len : 0);
 }
 
+REAM_MUST_CHECK
 static inline uint64_t ream_boot_map_checked(uint64_t number, const uint8_t *spares, size_t spares_len,
 					     uint8_t *mapped, size_t mapped_len, uint8_t *erased, size_t erased_len)
 {
@@ -810,6 +895,7 @@ static inline uint64_t ream_boot_map_checked(uint64_t number, const uint8_t *spa
 			     erased ? erased : none, erased ? erased_len : 0);
 }
 
+REAM_MUST_CHECK
 static inline uint64_t ream_first_bitmap_checked(uint64_t n, uint64_t size, const uint8_t *marks, size_t marks_len,
 						 uint8_t *bitmap, size_t bitmap_len)
 {
@@ -819,6 +905,7 @@ static inline uint64_t ream_first_bitmap_checked(uint64_t n, uint64_t size, cons
 				 bitmap ? bitmap : none, bitmap ? bitmap_len : 0);
 }
 
+REAM_MUST_CHECK
 static inline uint64_t ream_table_read_checked(uint64_t n, uint64_t size, const uint8_t *image, size_t image_len,
 					       const uint8_t *status, size_t status_len,
 					       uint8_t *bitmap, size_t bitmap_len)
@@ -830,6 +917,7 @@ static inline uint64_t ream_table_read_checked(uint64_t n, uint64_t size, const 
 			       bitmap ? bitmap : none, bitmap ? bitmap_len : 0);
 }
 
+REAM_MUST_CHECK
 static inline uint64_t ream_update_plan_checked(uint64_t n, uint64_t size, const uint8_t *image, size_t image_len,
 						const uint8_t *status, size_t status_len,
 						const uint8_t *wanted, size_t wanted_len,
@@ -845,6 +933,7 @@ static inline uint64_t ream_update_plan_checked(uint64_t n, uint64_t size, const
 				steps ? steps : none, steps ? steps_len : 0);
 }
 
+REAM_MUST_CHECK
 static inline uint64_t ream_recovery_plan_checked(uint64_t n, uint64_t size, const uint8_t *image, size_t image_len,
 						  const uint8_t *status, size_t status_len,
 						  const uint8_t *failed, size_t failed_len,
@@ -858,6 +947,7 @@ static inline uint64_t ream_recovery_plan_checked(uint64_t n, uint64_t size, con
 				  steps ? steps : none, steps ? steps_len : 0);
 }
 
+REAM_MUST_CHECK
 static inline uint64_t ream_update_page_checked(uint64_t n, uint64_t size, const uint8_t *image, size_t image_len,
 						const uint8_t *status, size_t status_len,
 						const uint8_t *wanted, size_t wanted_len,
@@ -873,6 +963,7 @@ static inline uint64_t ream_update_page_checked(uint64_t n, uint64_t size, const
 				page ? page : none, page ? page_len : 0);
 }
 
+REAM_MUST_CHECK
 static inline uint64_t ream_recovery_page_checked(uint64_t n, uint64_t size, const uint8_t *image, size_t image_len,
 						  const uint8_t *status, size_t status_len,
 						  const uint8_t *failed, size_t failed_len, uint64_t step,
@@ -884,6 +975,17 @@ static inline uint64_t ream_recovery_page_checked(uint64_t n, uint64_t size, con
 				  status ? status : none, status ? status_len : 0,
 				  failed ? failed : none, failed ? failed_len : 0, step,
 				  page ? page : none, page ? page_len : 0);
+}
+
+REAM_MUST_CHECK
+static inline uint64_t ream_table_page_checked(uint64_t n, uint64_t size, const uint8_t *bitmap, size_t bitmap_len,
+					       uint64_t kind, uint64_t version, uint64_t number,
+					       uint8_t *page, size_t page_len)
+{
+	uint8_t none[1] = { 0 };
+
+	return ream_table_page(n, size, bitmap ? bitmap : none, bitmap ? bitmap_len : 0, kind, version, number,
+			       page ? page : none, page ? page_len : 0);
 }
 
 #endif

@@ -28,7 +28,7 @@
 #define ENTRIES(by) {										\
 	by##_half_code, by##_spare_write, by##_spare_read, by##_page_read, by##_boot_map,	\
 	by##_first_bitmap, by##_table_read, by##_update_plan, by##_recovery_plan,		\
-	by##_update_page, by##_recovery_page,							\
+	by##_update_page, by##_recovery_page, by##_table_page,					\
 }
 
 static const struct implementation library = ENTRIES(ream), reference = ENTRIES(ref);

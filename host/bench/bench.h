@@ -49,6 +49,8 @@ struct implementation {
 				const uint8_t *, size_t, const uint8_t *, size_t, uint64_t, uint8_t *, size_t);
 	uint64_t (*recovery_page)(uint64_t, uint64_t, const uint8_t *, size_t, const uint8_t *, size_t,
 				  const uint8_t *, size_t, uint64_t, uint8_t *, size_t);
+	uint64_t (*table_page)(uint64_t, uint64_t, const uint8_t *, size_t, uint64_t, uint64_t, uint64_t,
+			       uint8_t *, size_t);
 };
 
 /* The inputs as prepared, and what is lent of them. */
@@ -75,6 +77,7 @@ struct bench {
 	struct region region[REGIONS];			/* lent */
 	uint8_t same[REGIONS][MOST_BITMAP];		/* the table in it */
 	uint8_t wanted[REGIONS][MOST_BITMAP];		/* the same with one entry changed */
+	uint8_t tables[REGIONS][MOST_BITMAP];		/* those in the regions, lent alone */
 	uint8_t factory[REGIONS][MOST_BLOCKS];		/* marks as prepared */
 	uint8_t marks[REGIONS][MOST_BLOCKS];		/* lent */
 	size_t failed;					/* how many steps of each plan failed */

@@ -2,6 +2,7 @@
 #include "bench.h"
 
 #include <stdio.h>
+#include <stdlib.h>
 #include <string.h>
 
 #include "draw.h"
@@ -86,13 +87,22 @@ static void prepare_chip(uint64_t *state, uint8_t (*spares)[16], unsigned which)
 	order_blocks(state, block, cases[which].order);
 	for (unsigned i = 0; i < SMALL_BLOCKS; i++) {
 		uint8_t (*spare)[16] = spares + 2 * block[i];
+		uint64_t answer;
 
 		generation = i % cases[which].each == 0 ? (unsigned)draw_below(state, 4) : (generation + 1) % 4;
-		ream_spare_write(data, sizeof(data), cases[which].tag, 4 * (i / cases[which].each) + generation,
-				 draw_below(state, REAM_COUNT_MAX + 1), spare[0], 16);
+		answer = ream_spare_write(data, sizeof(data), cases[which].tag,
+					  4 * (i / cases[which].each) + generation,
+					  draw_below(state, REAM_COUNT_MAX + 1), spare[0], 16);
+		if (!ream_ok(answer)) {
+			printf("bench: ream_spare_write refused a boot block\n");
+			exit(EXIT_FAILURE);
+		}
 		memcpy(spare[1], spare[0], 16);
-		for (unsigned k = 0; k < 2 && cases[which].worn; k++)
-			spare[k][draw_below(state, 3)] ^= (uint8_t)(1 << draw_below(state, 8));
+		for (unsigned k = 0; k < 2 && cases[which].worn; k++) {
+			const uint64_t bit = draw_below(state, 8);
+
+			spare[k][draw_below(state, 3)] ^= (uint8_t)(1 << bit);
+		}
 	}
 }
 

@@ -24,26 +24,29 @@ static void lend_blank(struct bench *bench)
 	memset(bench->data, 0xFF, sizeof(bench->data));
 }
 
-typedef void coder(struct bench *bench, const uint8_t *half);
+/* Gives the refusal, REAM_OK where there is none. */
+typedef unsigned coder(struct bench *bench, const uint8_t *half);
 
-static void code_by_library(struct bench *bench, const uint8_t *half)
+static unsigned code_by_library(struct bench *bench, const uint8_t *half)
 {
-	ream_half_code(half, 256, bench->code, 3);
+	return ream_refusal(ream_half_code(half, 256, bench->code, 3));
 }
 
-static void code_by_reference(struct bench *bench, const uint8_t *half)
+static unsigned code_by_reference(struct bench *bench, const uint8_t *half)
 {
-	ref_half_code(half, 256, bench->code, 3);
+	return ream_refusal(ref_half_code(half, 256, bench->code, 3));
 }
 
-static void code_by_table(struct bench *bench, const uint8_t *half)
+static unsigned code_by_table(struct bench *bench, const uint8_t *half)
 {
 	yard_by_table(&bench->table, half, bench->code);
+	return REAM_OK;
 }
 
-static void code_by_words(struct bench *bench, const uint8_t *half)
+static unsigned code_by_words(struct bench *bench, const uint8_t *half)
 {
 	yard_by_words(&bench->table, half, bench->code);
+	return REAM_OK;
 }
 
 enum { CODERS = 4 };
@@ -72,13 +75,19 @@ enum { HALF_TRIALS = sizeof(half_trials) / sizeof(half_trials[0]) };
 /* The time of one code, in nanoseconds. */
 static double timed_codes(struct bench *bench, unsigned trial, coder *code)
 {
-	double start;
+	unsigned refusals = 0;
+	double start, time;
 
 	half_trials[trial].lend(bench);
 	start = now();
 	for (unsigned i = 0; i < PAGES; i++)
-		code(bench, bench->data[i]);
-	return (now() - start) / PAGES;
+		refusals |= code(bench, bench->data[i]);
+	time = now() - start;
+	if (refusals != REAM_OK) {
+		printf("bench: the code of one of the %s is refused\n", half_trials[trial].inputs);
+		exit(EXIT_FAILURE);
+	}
+	return time / PAGES;
 }
 
 static void run_halves(struct bench *bench, unsigned trial)
@@ -106,8 +115,9 @@ static void compare_codes(struct bench *bench)
 		code_by_reference(bench, bench->clean[i]);
 		memcpy(code, bench->code, 3);
 		for (unsigned k = 0; k < CODERS; k++) {
-			coders[k].code(bench, bench->clean[i]);
-			if (memcmp(code, bench->code, 3) != 0) {
+			const unsigned refusal = coders[k].code(bench, bench->clean[i]);
+
+			if (refusal != REAM_OK || memcmp(code, bench->code, 3) != 0) {
 				printf("bench: half %u, the code by %s differs\n", i, coders[k].name);
 				exit(EXIT_FAILURE);
 			}

@@ -67,6 +67,11 @@ static void lend_marks(struct bench *bench)
 	memcpy(bench->marks, bench->factory, sizeof(bench->marks));
 }
 
+static void lend_tables(struct bench *bench)
+{
+	memcpy(bench->tables, bench->same, sizeof(bench->tables));
+}
+
 /* ---- a round of each entry. A region stands in a call as its image and its status. */
 
 /* The steps that fail, as many as a trial asks for: the first page of the plan's first copy, then the same of the
@@ -165,6 +170,18 @@ static unsigned round_recovery_page(struct bench *bench, const struct implementa
 
 #undef LENT
 
+/* The pages of primaries, in turn. */
+static unsigned round_table_page(struct bench *bench, const struct implementation *by)
+{
+	const unsigned pages = ream_table_pages(bench->n);
+	unsigned refusals = 0;
+
+	for (unsigned i = 0; i < REGIONS; i++)
+		refusals |= ream_refusal(by->table_page(bench->n, bench->size, bench->tables[i], bench->bitmap_len,
+							REAM_PRIMARY, i, i % pages, bench->page, PAGE_BYTES));
+	return refusals;
+}
+
 /* ---- the trials */
 
 static const struct trial large_trials[] = {
@@ -196,6 +213,7 @@ static const struct trial large_trials[] = {
 	{ "ream_recovery_page", "versions equal, bitmaps different", 0, lend_differing, round_recovery_page },
 	{ "ream_recovery_page", "the same after one failed step", 1, lend_differing, round_recovery_page },
 	{ "ream_recovery_page", "the same after two failed steps", 2, lend_differing, round_recovery_page },
+	{ "ream_table_page", "tables", 0, lend_tables, round_table_page },
 };
 
 enum { TRIALS = sizeof(large_trials) / sizeof(large_trials[0]) };

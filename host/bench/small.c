@@ -91,14 +91,18 @@ void prepare_pages(struct bench *bench)
 	memcpy(bench->flipped, bench->clean, sizeof(bench->flipped));
 	for (unsigned i = 0; i < PAGES; i++) {
 		const unsigned place = (unsigned)draw_below(&state, 8 * 512);
+		const uint64_t count = draw_below(&state, REAM_COUNT_MAX + 1);
+		const uint64_t path = draw_below(&state, REAM_PATH_MAX + 1);
 
 		bench->flipped[i][place / 8] ^= (uint8_t)(1 << place % 8);
-		ref_spare_write(bench->clean[i], 512, REAM_TAG_DATA, draw_below(&state, REAM_PATH_MAX + 1),
-				draw_below(&state, REAM_COUNT_MAX + 1), bench->spare[i], 16);
+		ref_spare_write(bench->clean[i], 512, REAM_TAG_DATA, path, count, bench->spare[i], 16);
 	}
 	memcpy(bench->worn, bench->spare, sizeof(bench->worn));
-	for (unsigned i = 0; i < PAGES; i++)
-		bench->worn[i][draw_below(&state, 3)] ^= (uint8_t)(1 << draw_below(&state, 8));
+	for (unsigned i = 0; i < PAGES; i++) {
+		const uint64_t bit = draw_below(&state, 8);
+
+		bench->worn[i][draw_below(&state, 3)] ^= (uint8_t)(1 << bit);
+	}
 	yard_table_make(&bench->table);
 }
 

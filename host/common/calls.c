@@ -40,6 +40,7 @@ CALLS(recovery_plan, number[0], number[1], LENT(0), LENT(1), LENT(2), LENT(3))
 CALLS(update_page, number[0], number[1], LENT(0), LENT(1), LENT(2), LENT(3), number[2], LENT(4))
 CALLS(recovery_page, number[0], number[1], LENT(0), LENT(1), LENT(2), number[2], LENT(3))
 CALLS(boot_map, number[0], LENT(0), LENT(1), LENT(2))
+CALLS(table_page, number[0], number[1], LENT(0), number[2], number[3], number[4], LENT(1))
 
 #undef LENT
 #undef CALLS
@@ -108,6 +109,11 @@ const struct entry entries[ENTRIES] = {
 		3, { { "spares", 32, SMALL_BLOCK, IN }, { "mapped", 2, SMALL_BLOCK, OUT },
 		     { "erased", 2, SMALL_BLOCK, OUT } },
 		library_boot_map, reference_boot_map,
+	},
+	[TABLE_PAGE] = {
+		"ream_table_page", 5, { "n", "size", "kind", "version", "place" },
+		2, { { "bitmap", 1, BYTE_OF_BITMAP, IN }, PAGE },
+		library_table_page, reference_table_page,
 	},
 };
 

@@ -20,7 +20,7 @@
 #include "lent.h"
 
 enum {
-	MOST_NUMBERS = 3,
+	MOST_NUMBERS = 5,
 	MOST_BUFFERS = 5,
 	MOST_DIFFERENCES = 5,	/* a test ends after this many */
 	SHOWN_BYTES = 16,	/* a message shows so many bytes of a buffer */
@@ -32,6 +32,7 @@ enum entry_index {
 	HALF_CODE, SPARE_WRITE, SPARE_READ, PAGE_READ,
 	FIRST_BITMAP, TABLE_READ, UPDATE_PLAN, RECOVERY_PLAN, UPDATE_PAGE, RECOVERY_PAGE,
 	BOOT_MAP,
+	TABLE_PAGE,
 	ENTRIES,
 };
 
@@ -61,7 +62,8 @@ struct entry {
 extern const struct entry entries[ENTRIES];
 
 /* Has an entry a number, or a buffer, of this name? The large chip's entries have "n" and "size", the region's,
- * as their first two numbers; one that takes a number of small-chip blocks has "number" as its first. */
+ * as their first two numbers; one that takes a number of small-chip blocks has "number" as its first, and no other has
+ * that: the number of a page in its copy is "place". */
 bool has_number(enum entry_index index, const char *name);
 bool has_buffer(enum entry_index index, const char *name);
 

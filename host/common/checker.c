@@ -13,12 +13,17 @@ static void require(struct checker *checker, bool holds, const char *rule)
 
 /* ---- reading */
 
+/* What the reference reads. */
+static uint64_t read_table(const struct region *region, uint8_t *bitmap)
+{
+	return ref_table_read(region->n, region->size, region->image, region_image_len(region), region->status,
+			      region_status_len(region), bitmap, (size_t)region->n / 4);
+}
+
 /* Is the pair settled? Then gives its table and the region's blocks of its copies, by the reference. */
 static bool settled(const struct region *region, struct table *table, unsigned block[KINDS])
 {
-	const uint64_t answer = ref_table_read(region->n, region->size, region->image, region_image_len(region),
-					       region->status, region_status_len(region), table->bitmap,
-					       (size_t)region->n / 4);
+	const uint64_t answer = read_table(region, table->bitmap);
 
 	if (answer % 256 != 0)
 		return false;
@@ -58,17 +63,23 @@ static bool page_complete(const struct region *region, unsigned block, unsigned 
 	       memcmp(found + from, asked + from, PAGE_BYTES - from) == 0;
 }
 
-/* Has a block all pages of the new primary, complete? */
-static bool is_new_primary(const struct checker *checker, const struct region *region, unsigned block)
+bool checker_primary(const struct region *region, unsigned block, const struct table *table, unsigned pages)
 {
-	for (unsigned page = 0; page < region->pages; page++) {
+	for (unsigned page = 0; page < pages; page++) {
 		uint8_t asked[PAGE_BYTES];
 
-		region_lay_out(region, page, PRIMARY, checker->new.version, checker->new.bitmap, asked);
+		region_lay_out(region, page, PRIMARY, table->version, table->bitmap, asked);
 		if (!page_complete(region, block, page, asked))
 			return false;
 	}
 	return true;
+}
+
+unsigned checker_read(const struct region *region)
+{
+	uint8_t bitmap[MOST_BITMAP];
+
+	return (unsigned)(read_table(region, bitmap) % 256);
 }
 
 /* "a new primary stood with all its pages complete", in whichever block */
@@ -76,7 +87,7 @@ static void find_new_primary(struct checker *checker, const struct region *regio
 {
 	checker->complete = checker->in_failed = false;
 	for (unsigned block = 0; block < region->size; block++) {
-		if (is_new_primary(checker, region, block)) {
+		if (checker_primary(region, block, &checker->new, region->pages)) {
 			checker->complete = true;
 			checker->in_failed = checker->plan.failed[block];
 		}
@@ -110,18 +121,35 @@ bool checker_settled(const struct region *region)
 	return settled(region, &table, block);
 }
 
+void checker_begin_first(struct checker *checker, const struct region *region, const struct table *table)
+{
+	static const unsigned none[KINDS];
+
+	checker->old = checker->new = *table;
+	checker->one = true;
+	checker->open = checker->complete = checker->in_failed = false;
+	expected_update(&checker->plan, region, none, table->version, false);
+	memcpy(checker->last, table->bitmap, sizeof(checker->last));
+}
+
 bool checker_begin(struct checker *checker, const struct region *region)
 {
+	struct table table;
 	unsigned block[KINDS];
 
 	checker->broken = NULL;
-	if (!settled(region, &checker->old, block))
+	if (!settled(region, &table, block))
 		return false;
-	checker->new = checker->old;
-	checker->one = true;
-	checker->open = checker->complete = checker->in_failed = false;
-	expected_update(&checker->plan, region, block, checker->old.version, false);
-	memcpy(checker->last, checker->old.bitmap, sizeof(checker->last));
+	checker_begin_first(checker, region, &table);
+	return true;
+}
+
+bool checker_begin_bare(struct checker *checker, const struct region *region)
+{
+	checker->broken = NULL;
+	for (unsigned block = 0; block < region->size; block++)
+		if (region_good(region, block, PRIMARY) || region_good(region, block, MIRROR))
+			return false;
 	return true;
 }
 

@@ -11,6 +11,9 @@
  * the plan ran to its end; and checker_event() after each event. The first rule that is found broken stands in
  * `broken`.
  *
+ * A history that starts with no good copy tells it checker_begin_bare(), checker_erase() and checker_write() while the
+ * first primary is made, and checker_begin_first() once it is complete; then it goes on as above.
+ *
  * checker_told() judges one step by itself, for a history that leaves the steps' order to others.
  */
 #ifndef CHECKER_H
@@ -49,6 +52,18 @@ bool checker_settled(const struct region *region);
 
 /* Gives false if the region is not settled, so that no history can start there. */
 bool checker_begin(struct checker *checker, const struct region *region);
+
+/* Gives false if the region has a good copy, so that no first primary can be made there. */
+bool checker_begin_bare(struct checker *checker, const struct region *region);
+
+/* The first primary is complete, of this table. There is no other one. */
+void checker_begin_first(struct checker *checker, const struct region *region, const struct table *table);
+
+/* Has a block the first so many pages of a primary of this table, complete? */
+bool checker_primary(const struct region *region, unsigned block, const struct table *table, unsigned pages);
+
+/* The refusal of reading a region's table, by the reference. */
+unsigned checker_read(const struct region *region);
 
 /* An update was planned with this wanted bitmap, or was refused for what the region holds. */
 void checker_update(struct checker *checker, const struct region *region, const uint8_t *wanted, bool refused);

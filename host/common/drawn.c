@@ -20,8 +20,11 @@ void drawn_table(uint64_t *state, uint8_t *table, uint64_t n)
 		return;
 	}
 	memset(table, 0xFF, (size_t)n / 4);
-	for (uint64_t i = draw_below(state, 8); i > 0; i--)
-		ream_entry_set(table, draw_below(state, n), (unsigned)draw_below(state, 4));
+	for (uint64_t i = draw_below(state, 8); i > 0; i--) {
+		const unsigned entry = (unsigned)draw_below(state, 4);
+
+		ream_entry_set(table, draw_below(state, n), entry);
+	}
 }
 
 enum way drawn_way(uint64_t *state, unsigned pages)
@@ -33,6 +36,7 @@ void drawn_spoil(uint64_t *state, struct region *region, unsigned block, unsigne
 		 enum way way)
 {
 	uint8_t *oob = region_oob(region, block, page);
+	uint64_t bit;
 
 	switch (way) {
 	case UNREADABLE:
@@ -42,7 +46,8 @@ void drawn_spoil(uint64_t *state, struct region *region, unsigned block, unsigne
 		memset(region_data(region, block, page), 0xFF, PAGE_BYTES);
 		break;
 	case WRONG_SIGNATURE:
-		oob[SIGNATURE + draw_below(state, 4)] ^= (uint8_t)(1 << draw_below(state, 8));
+		bit = draw_below(state, 8);
+		oob[SIGNATURE + draw_below(state, 4)] ^= (uint8_t)(1 << bit);
 		break;
 	case OTHER_SIGNATURE:
 		region_sign(region, block, page, kind == PRIMARY ? MIRROR : PRIMARY);

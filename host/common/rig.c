@@ -48,8 +48,7 @@ static void spoil_zeros(uint64_t *state, struct region *region, unsigned block)
 
 /* ---- starts */
 
-/* Versions about which something turns over, and any. */
-static uint8_t draw_version(uint64_t *state)
+uint8_t rig_version(uint64_t *state)
 {
 	static const uint8_t versions[] = { 0, 1, 127, 128, 254, 255 };
 
@@ -73,10 +72,11 @@ static void fill_half(uint64_t *state, struct region *region, unsigned block, en
 {
 	const unsigned spoilt = (unsigned)draw_below(state, region->pages);
 	uint8_t other[MOST_BITMAP];
+	const uint8_t *written;
 
 	drawn_table(state, other, region->n);
-	region_copy(region, block, kind, draw_other_version(state, start->version),
-		    draw_below(state, 2) == 0 ? table : other);
+	written = draw_below(state, 2) == 0 ? table : other;
+	region_copy(region, block, kind, draw_other_version(state, start->version), written);
 	for (unsigned page = 0; page < region->pages; page++)
 		if (page == spoilt || draw_below(state, 3) == 0)
 			drawn_spoil(state, region, block, page, kind, drawn_way(state, region->pages));
@@ -119,6 +119,22 @@ static void fill_zeroed(uint64_t *state, struct region *region, unsigned block, 
 		spoil_zeros(state, region, block);
 }
 
+/* At least one page is blank. The others have anything in OOB 0-13. */
+static void fill_stray(uint64_t *state, struct region *region, unsigned block, const struct start *start,
+		       const uint8_t *table)
+{
+	const unsigned blank = (unsigned)draw_below(state, region->pages);
+
+	for (unsigned page = 0; page < region->pages; page++) {
+		const enum kind kind = (enum kind)draw_below(state, KINDS);
+
+		if (page == blank || draw_below(state, 3) == 0)
+			continue;
+		region_write(region, block, page, kind, draw_other_version(state, start->version), table);
+		fill(state, region_oob(region, block, page), SIGNATURE);
+	}
+}
+
 static void fill_block(uint64_t *state, struct region *region, unsigned block, const struct start *start,
 		       const uint8_t *table)
 {
@@ -144,6 +160,9 @@ static void fill_block(uint64_t *state, struct region *region, unsigned block, c
 	case FILLED_HALF_MIRROR:
 		fill_half(state, region, block, MIRROR, start, table);
 		break;
+	case FILLED_STRAY:
+		fill_stray(state, region, block, start, table);
+		break;
 	case FILLED_ZEROED:
 	case FILLED_ZEROED_UNREADABLE:
 	case FILLED_NEARLY_ZEROED:
@@ -157,7 +176,7 @@ static void fill_block(uint64_t *state, struct region *region, unsigned block, c
 static void fill_zeros(uint64_t *state, struct region *region, struct start *start, const uint8_t *table)
 {
 	for (unsigned block = 0; block < start->size; block++) {
-		if (start->filling[block] >= FILLED_ZEROED)
+		if (start->filling[block] >= FILLED_ZEROED && start->filling[block] <= FILLED_NEARLY_ZEROED)
 			fill_zeroed(state, region, block, start, table);
 		if (start->filling[block] == FILLED_UNREADABLE && region_zeroed(region, block))
 			start->filling[block] = FILLED_ZEROED_UNREADABLE;
@@ -169,7 +188,7 @@ static void draw_start(uint64_t *state, uint64_t n, unsigned size, unsigned fill
 {
 	start->n = n;
 	start->size = size;
-	start->version = draw_version(state);
+	start->version = rig_version(state);
 	start->block[PRIMARY] = (unsigned)draw_below(state, size);
 	start->block[MIRROR] = (start->block[PRIMARY] + 1 + (unsigned)draw_below(state, size - 1)) % size;
 	for (unsigned block = 0; block < size; block++)
@@ -188,29 +207,42 @@ static void spare_bad(struct start *start)
 	}
 }
 
-/* The region of a start. */
-static void fill_region(uint64_t *state, struct start *start, struct region *region)
+/* The blocks of a start, but for those that show zeros, once a table is drawn. */
+static void fill_blocks(uint64_t *state, const struct start *start, struct region *region, uint8_t *table)
 {
-	uint8_t table[MOST_BITMAP];
-
 	drawn_table(state, table, start->n);
 	region_begin(region, start->n, start->size);
 	for (unsigned block = 0; block < start->size; block++)
 		fill_block(state, region, block, start, table);
 	if (draw_below(state, 2) == 0)
 		drawn_stir(state, region);
+}
+
+/* The region of a start with a pair. */
+static void fill_region(uint64_t *state, struct start *start, struct region *region)
+{
+	uint8_t table[MOST_BITMAP];
+
+	fill_blocks(state, start, region, table);
 	for (unsigned kind = 0; kind < KINDS; kind++)
 		for (unsigned page = 0; page < region->pages; page++)
 			fill(state, region_oob(region, start->block[kind], page), SIGNATURE);
 	fill_zeros(state, region, start, table);
 }
 
-void rig_start(uint64_t *state, struct start *start, struct region *region)
+/* A number of blocks that a chip can have. */
+static uint64_t draw_chip(uint64_t *state)
 {
 	const uint64_t *of_pages = chips[draw_below(state, MOST_PAGES)];
-	const uint64_t n = of_pages[draw_below(state, CHIPS)];
 
-	draw_start(state, n, drawn_size(state, n), FILLINGS, start);
+	return of_pages[draw_below(state, CHIPS)];
+}
+
+void rig_start(uint64_t *state, struct start *start, struct region *region)
+{
+	const uint64_t n = draw_chip(state);
+
+	draw_start(state, n, drawn_size(state, n), FILLED_NEARLY_ZEROED + 1, start);
 	if (draw_below(state, 2) == 0)
 		spare_bad(start);
 	fill_region(state, start, region);
@@ -220,6 +252,33 @@ void rig_start_on(uint64_t *state, uint64_t n, unsigned size, struct start *star
 {
 	draw_start(state, n, size, FILLED_HALF_MIRROR + 1, start);
 	fill_region(state, start, region);
+}
+
+/* What stands in the blocks where there is no pair: in so many of them, from a drawn one on, that they are bad. */
+static void draw_bare(uint64_t *state, struct start *start)
+{
+	static const enum filling bad[] = { FILLED_BAD, FILLED_ZEROED, FILLED_ZEROED_UNREADABLE };
+	const unsigned first = (unsigned)draw_below(state, start->size);
+	const unsigned count = (unsigned)draw_below(state, start->size + 1);
+
+	for (unsigned block = 0; block < start->size; block++)
+		start->filling[block] = (enum filling)(1 + draw_below(state, FILLINGS - 1));
+	spare_bad(start);
+	for (unsigned i = 0; i < count; i++)
+		start->filling[(first + i) % start->size] = bad[draw_below(state, 3)];
+}
+
+void rig_start_bare(uint64_t *state, struct start *start, struct region *region, uint8_t *table)
+{
+	start->n = draw_chip(state);
+	start->size = drawn_size(state, start->n);
+	start->version = rig_version(state);
+	draw_bare(state, start);
+	fill_blocks(state, start, region, table);
+	fill_zeros(state, region, start, table);
+	for (unsigned block = 0; block < start->size; block++)
+		if (start->filling[block] == FILLED_STRAY && region->pages == 1)
+			start->filling[block] = FILLED_BLANK;
 }
 
 /* ---- steps */

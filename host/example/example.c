@@ -1,9 +1,9 @@
 /*
  * An example for drivers, in two parts. The small chip: writes the spare of a page, flips one bit as a worn
  * chip would, reads the page back through the library, and shows a refusal; then finds the boot blocks, as a loader
- * does. The large chip: reads the bad-block table, marks a block as gone bad and reads the table back; then an erase
- * fails in such an update, so that a block of the region is retired and the update goes on in another; then power
- * fails in an update, and a recovery settles the pair again.
+ * does. The large chip: makes its first pair of bad-block tables from the factory's marks; marks a block as gone bad
+ * and reads the table back; then an erase fails in such an update, so that a block of the region is retired and the
+ * update goes on in another; then power fails in an update, and a recovery settles the pair again.
  */
 #include <inttypes.h>
 #include <limits.h>
@@ -43,7 +43,7 @@ static int small_chip(void)
 
 	/* A boot page: boot number 1, generation 2, in a block that was erased 1,000 times. */
 	answer = ream_spare_write(data, sizeof(data), REAM_TAG_BOOT, 4 * 1 + 2, 1000, spare, sizeof(spare));
-	if (ream_refusal(answer) != REAM_OK) {
+	if (!ream_ok(answer)) {
 		print_refusal("ream_spare_write", answer);
 		return EXIT_FAILURE;
 	}
@@ -55,7 +55,7 @@ static int small_chip(void)
 	/* One bit flips on the chip; the read puts it right in place. */
 	data[300] ^= 0x10;
 	answer = ream_page_read(data, sizeof(data), spare, sizeof(spare), fields, sizeof(fields));
-	if (ream_refusal(answer) != REAM_OK) {
+	if (!ream_ok(answer)) {
 		print_refusal("ream_page_read", answer);
 		return EXIT_FAILURE;
 	}
@@ -72,13 +72,17 @@ static int small_chip(void)
 }
 
 /* Writes the spares of a boot block, of its first page and of its last. */
-static void lay_out_boot(uint8_t *spares, uint64_t number, uint64_t generation)
+static bool lay_out_boot(uint8_t *spares, uint64_t number, uint64_t generation)
 {
 	static const uint8_t data[REAM_SMALL_DATA_SIZE];
+	uint64_t answer = REAM_OK;
 
-	for (unsigned i = 0; i < 2; i++)
-		ream_spare_write(data, sizeof(data), REAM_TAG_BOOT, 4 * number + generation, 1000,
-				 spares + i * REAM_SMALL_SPARE_SIZE, REAM_SMALL_SPARE_SIZE);
+	for (unsigned i = 0; i < 2 && ream_ok(answer); i++)
+		answer = ream_spare_write(data, sizeof(data), REAM_TAG_BOOT, 4 * number + generation, 1000,
+					  spares + i * REAM_SMALL_SPARE_SIZE, REAM_SMALL_SPARE_SIZE);
+	if (!ream_ok(answer))
+		print_refusal("ream_spare_write", answer);
+	return ream_ok(answer);
 }
 
 static int boot_blocks(void)
@@ -89,11 +93,10 @@ static int boot_blocks(void)
 
 	/* Block 1 is erased. Power failed when boot number 1 had been written to block 3, before block 0 was erased. */
 	memset(spares, 0xFF, sizeof(spares));
-	lay_out_boot(spares[2], 0, 2);
-	lay_out_boot(spares[0], 1, 3);
-	lay_out_boot(spares[3], 1, 0);
+	if (!lay_out_boot(spares[2], 0, 2) || !lay_out_boot(spares[0], 1, 3) || !lay_out_boot(spares[3], 1, 0))
+		return EXIT_FAILURE;
 	answer = ream_boot_map(4, spares[0], sizeof(spares), mapped, sizeof(mapped), erased, sizeof(erased));
-	if (ream_refusal(answer) != REAM_OK) {
+	if (!ream_ok(answer)) {
 		print_refusal("ream_boot_map", answer);
 		return EXIT_FAILURE;
 	}
@@ -112,6 +115,7 @@ enum {
 	BITMAP_SIZE = BLOCKS / 4,
 	PAGES = 1,
 	REGION_PAGES = REGION * PAGES,
+	FIRST_VERSION = 1,	/* of the first pair; any will do */
 };
 
 /* The region as it is lent. */
@@ -180,7 +184,7 @@ static uint64_t plan_make(struct plan *plan)
 		answer = ream_recovery_plan(BLOCKS, REGION, from->image, sizeof(from->image), from->status,
 					    sizeof(from->status), plan->failed, plan->failed_count, plan->steps,
 					    sizeof(plan->steps));
-	plan->count = ream_refusal(answer) == REAM_OK ? ream_step_count(answer) : 0;
+	plan->count = ream_ok(answer) ? ream_step_count(answer) : 0;
 	return answer;
 }
 
@@ -234,7 +238,7 @@ static uint64_t plan_step(const struct plan *plan, unsigned i, struct chip *chip
 	case REAM_WRITE:
 		printf("  step %u: write page %u of block %u\n", i, step.page, step.block);
 		answer = plan_page(plan, i, page);
-		*done = ream_refusal(answer) == REAM_OK && chip_write(chip, step.block, step.page, page);
+		*done = ream_ok(answer) && chip_write(chip, step.block, step.page, page);
 		break;
 	}
 	return answer;
@@ -248,19 +252,19 @@ static unsigned carry_out(struct chip *chip, const uint8_t *wanted, unsigned pow
 	uint64_t answer = plan_first(&plan, chip, wanted);
 	unsigned i = 0;
 
-	while (ream_refusal(answer) == REAM_OK && i < plan.count && power-- > 0) {
+	while (ream_ok(answer) && i < plan.count && power-- > 0) {
 		bool done = false;
 
 		answer = plan_step(&plan, i, chip, &done);
 		if (done) {
 			i++;
-		} else if (ream_refusal(answer) == REAM_OK) {
+		} else if (ream_ok(answer)) {
 			printf("  step %u failed; the plan becomes:\n", i);
 			answer = plan_again(&plan, i);
 			i = 0;
 		}
 	}
-	if (ream_refusal(answer) != REAM_OK)
+	if (!ream_ok(answer))
 		print_refusal("carrying out a plan", answer);
 	return ream_refusal(answer);
 }
@@ -272,7 +276,7 @@ static unsigned read_table(const struct chip *chip, uint8_t bitmap[BITMAP_SIZE],
 	const uint64_t answer = ream_table_read(BLOCKS, REGION, region->image, sizeof(region->image), region->status,
 						sizeof(region->status), bitmap, BITMAP_SIZE);
 
-	if (ream_refusal(answer) == REAM_OK)
+	if (ream_ok(answer))
 		printf("table read: version %u, primary in block %u, mirror in block %u; entry of block %u is %u\n",
 		       ream_version(answer), ream_primary_block(answer), ream_mirror_block(answer), block,
 		       ream_entry_get(bitmap, block));
@@ -290,25 +294,85 @@ static unsigned mark_late(struct chip *chip, uint8_t bitmap[BITMAP_SIZE], unsign
 	return read_table(chip, bitmap, block);
 }
 
-/* A page of the first table as a maker puts it on the chip: all blocks good. */
-static void lay_out_page(uint8_t *page, const char signature[4], uint8_t version)
+/* ---- a chip's first pair of tables, by the header's six lines */
+
+/* The highest block of the region that is certainly not readable as bad, as OOB byte 0 of its first page is not 0; 0
+ * where there is none. */
+static unsigned block_for_primary(struct chip *chip)
 {
-	memset(page, 0xFF, REAM_LARGE_PAGE_SIZE);
-	memcpy(page + REAM_LARGE_DATA_SIZE + 14, signature, 4);
-	page[REAM_LARGE_DATA_SIZE + 18] = version;
+	for (unsigned block = BLOCKS - 1; block >= BLOCKS - REGION; block--)
+		if (chip_page(chip, block, 0)[REAM_LARGE_DATA_SIZE] != 0)
+			return block;
+	return 0;
 }
+
+/* Line 4: writes the primary to a block, and tells whether that was done: the chip may report that a step
+ * failed. */
+static uint64_t write_primary(struct chip *chip, unsigned block, const uint8_t bitmap[BITMAP_SIZE], bool *done)
+{
+	uint8_t page[REAM_LARGE_PAGE_SIZE];
+	uint64_t answer = REAM_OK;
+
+	printf("  erase block %u\n", block);
+	*done = chip_erase(chip, block);
+	for (unsigned i = 0; i < PAGES && *done; i++) {
+		printf("  write page %u of block %u\n", i, block);
+		answer = ream_table_page(BLOCKS, REGION, bitmap, BITMAP_SIZE, REAM_PRIMARY, FIRST_VERSION, i, page,
+					 sizeof(page));
+		*done = ream_ok(answer) && chip_write(chip, block, i, page);
+	}
+	return answer;
+}
+
+/* Lines 2 to 5, once: the block, the bitmap, the primary, and a zero step where a step failed. */
+static uint64_t try_primary(struct chip *chip, uint8_t marks[BLOCKS])
+{
+	const unsigned block = block_for_primary(chip);
+	uint8_t bitmap[BITMAP_SIZE];
+	uint64_t answer;
+	bool done = false;
+
+	if (block == 0)
+		return REAM_NO_TARGET;
+	marks[block] = 0xFF;
+	answer = ream_first_bitmap(BLOCKS, REGION, marks, BLOCKS, bitmap, sizeof(bitmap));
+	if (ream_ok(answer))
+		answer = write_primary(chip, block, bitmap, &done);
+	if (ream_ok(answer) && !done)
+		chip_write_zeros(chip, block);
+	return answer;
+}
+
+/* Makes the first pair from the marks, OOB byte 0 of the first page of each block. After a power cut it is called
+ * again. Gives the refusal that ended it, or REAM_OK. */
+static unsigned make_first_pair(struct chip *chip, uint8_t marks[BLOCKS])
+{
+	struct plan plan;
+	uint64_t answer = REAM_OK;
+
+	while (ream_ok(answer) && ream_refusal(plan_first(&plan, chip, NULL)) == REAM_NO_COPY)
+		answer = try_primary(chip, marks);
+	if (!ream_ok(answer)) {
+		print_refusal("making the first pair", answer);
+		return ream_refusal(answer);
+	}
+	return carry_out(chip, NULL, UINT_MAX);
+}
+
+/* ---- a chip's life */
 
 static int large_chip(void)
 {
 	struct chip chip = { .worn = 0 };
-	uint8_t bitmap[BITMAP_SIZE];
+	uint8_t marks[BLOCKS], bitmap[BITMAP_SIZE];
 
-	/* A settled pair: mirror and primary in the last two blocks. */
+	/* A chip without tables, of which the factory marked block 3. The primary and then the mirror are written. */
 	memset(chip.region.image, 0xFF, sizeof(chip.region.image));
 	memset(chip.region.status, REAM_READ_WELL, sizeof(chip.region.status));
-	lay_out_page(chip_page(&chip, 1022, 0), "1tbB", 5);
-	lay_out_page(chip_page(&chip, 1023, 0), "Bbt0", 5);
-	if (read_table(&chip, bitmap, 17) != REAM_OK)
+	memset(marks, 0xFF, sizeof(marks));
+	marks[3] = 0;
+	printf("first pair, block 3 marked by the factory:\n");
+	if (make_first_pair(&chip, marks) != REAM_OK || read_table(&chip, bitmap, 3) != REAM_OK)
 		return EXIT_FAILURE;
 
 	/* Block 17 went bad in use: the table read, with that entry set, is the one wanted. */

@@ -8,7 +8,27 @@
 
 #include "progress.h"
 #include "status.h"
+#include "table.h"
 #include "tool.h"
+
+/* ---- options */
+
+void apply_options(struct syntax *syntax, struct applying *applying)
+{
+	args_add(syntax, (struct argument){ .name = "apply", .text = &applying->out });
+	args_add(syntax, (struct argument){ .name = "status-out", .text = &applying->status_out });
+	args_add(syntax, (struct argument){ .name = "pages", .text = &applying->pages });
+	args_add(syntax, (struct argument){ .name = "force", .flag = &applying->force });
+}
+
+bool apply_beside(const struct applying *applying, const char *command, const char *option, bool told)
+{
+	if (told && !applying->out)
+		complain("%s: %s: expected --apply beside it", command, option);
+	return !told || applying->out;
+}
+
+/* ---- the copy */
 
 /* So much is copied at a time, and so much before it is sent to the disk, that what is told of the progress is
  * true. */
@@ -95,6 +115,8 @@ static bool fill_copy(FILE *stream, const void *from)
 	return copy_as_it_is(stream, writing.copy) && plan_go_through(writing.copy->plan, do_step, &writing);
 }
 
+/* ---- the whole */
+
 bool apply_begin(struct application *application, const struct applying *applying, const struct dump *dump,
 		 const struct plan *plan)
 {
@@ -118,6 +140,27 @@ bool apply_begin(struct application *application, const struct applying *applyin
 bool apply_finish(struct application *application)
 {
 	return outputs_finish(&application->outputs);
+}
+
+void apply_print(const struct application *application)
+{
+	struct settled table;
+
+	outputs_print(&application->outputs);
+	if (application->copy.path && table_read(&application->after, &table) == REAM_OK)
+		table_print_pair(&table);
+}
+
+void apply_write(struct json *json, const struct application *application)
+{
+	struct settled table;
+
+	outputs_write(json, &application->outputs);
+	if (table_read(&application->after, &table) != REAM_OK)
+		return;
+	json_object(json, "after");
+	table_write_pair(json, &table);
+	json_end(json);
 }
 
 void apply_end(struct application *application, bool written)

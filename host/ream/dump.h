@@ -39,7 +39,7 @@ struct shape {
 	struct texts unreadable;	/* lists of pages */
 };
 
-enum { MOST_READS = 2 };
+enum { MOST_READS = 3 };
 
 struct dump {
 	struct input input;
@@ -47,7 +47,7 @@ struct dump {
 	uint64_t pages_per_block;
 	bool whole;		/* of the whole chip; otherwise of its region */
 	struct region region;
-	struct file_id read[MOST_READS];	/* the files that were read: the dump and its status file */
+	struct file_id read[MOST_READS];	/* the files that were read: the dump, its status file and a bitmap */
 	unsigned reads;
 };
 

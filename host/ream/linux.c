@@ -38,13 +38,15 @@ static bool entries_behind(const struct region *region, unsigned block)
 }
 
 /* What else leaves a header on the first page only. Nothing does, if entries stand behind it. If no copy is
- * good it was no power cut, but N may be told wrong. */
+ * good it was no power cut in an update or a recovery, but may be one in the making of a first pair, or N is told
+ * wrong. */
 static const char *else_by(const struct region *region, unsigned block, unsigned refusal)
 {
 	if (entries_behind(region, block))
 		return "";
 	if (refusal == REAM_NO_COPY)
-		return ", and as a chip of 8,192 blocks or fewer has it";
+		return ", as a power cut in the making of a first pair leaves it, and as a chip of 8,192 blocks or "
+		       "fewer has it";
 	return ", and as a power cut after its first page leaves it";
 }
 

@@ -1,6 +1,7 @@
 /* What a block of the region holds. */
 #include "look.h"
 
+#include <inttypes.h>
 #include <stdio.h>
 
 static bool is_blank(const struct region *region, unsigned block, unsigned page)
@@ -136,7 +137,20 @@ void look_letters(const struct look *look, char words[LOOK_LEN])
 		page_letters(look, words);
 }
 
-void look_write(struct json *json, const struct region *region, unsigned block)
+/* ---- the region */
+
+void look_print_region(const struct region *region)
+{
+	for (unsigned block = 0; block < region->size; block++) {
+		const struct look look = look_at(region, block);
+		char words[LOOK_LEN];
+
+		look_words(&look, words);
+		printf("  block %" PRIu64 ": %s\n", region_first(region) + block, words);
+	}
+}
+
+static void write_block(struct json *json, const struct region *region, unsigned block)
 {
 	const struct look look = look_at(region, block);
 	char letters[MOST_PAGES + 1];
@@ -148,5 +162,13 @@ void look_write(struct json *json, const struct region *region, unsigned block)
 	if (is_copy(&look))
 		json_number(json, "version", look.version[0]);
 	json_text(json, "pages", letters);
+	json_end(json);
+}
+
+void look_write_region(struct json *json, const struct region *region)
+{
+	json_list(json, "region");
+	for (unsigned block = 0; block < region->size; block++)
+		write_block(json, region, block);
 	json_end(json);
 }

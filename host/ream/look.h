@@ -54,7 +54,8 @@ void look_words(const struct look *look, char words[LOOK_LEN]);
 void look_brief(const struct look *look, char words[LOOK_LEN]);
 void look_letters(const struct look *look, char words[LOOK_LEN]);
 
-/* Writes what a block of the region holds. */
-void look_write(struct json *json, const struct region *region, unsigned block);
+/* Tells what each block of the region holds. */
+void look_print_region(const struct region *region);
+void look_write_region(struct json *json, const struct region *region);
 
 #endif

@@ -1,5 +1,4 @@
 /* ream pair: the pair of tables in a dump, or why it cannot be read and what a recovery would do. */
-#include <inttypes.h>
 #include <stdio.h>
 
 #include "differ.h"
@@ -50,17 +49,6 @@ static void find(struct finding *finding)
 
 /* ---- as text */
 
-static void print_region(const struct region *region)
-{
-	for (unsigned block = 0; block < region->size; block++) {
-		const struct look look = look_at(region, block);
-		char words[LOOK_LEN];
-
-		look_words(&look, words);
-		printf("  block %" PRIu64 ": %s\n", region_first(region) + block, words);
-	}
-}
-
 /* The chip block of the last step, and the kind of copy that it leaves there. */
 static void print_one_copy(const struct plan *plan)
 {
@@ -96,7 +84,7 @@ static void print_finding(const struct finding *finding)
 	const struct region *region = &finding->dump.region;
 
 	dump_print(&finding->dump);
-	print_region(region);
+	look_print_region(region);
 	if (finding->refusal == REAM_OK) {
 		table_print_pair(&finding->table);
 		table_print_entries(&finding->table, region->n);
@@ -128,10 +116,7 @@ static void write_finding(const struct finding *finding)
 	dump_write(&json, &finding->dump);
 	notes_write(&json, "warnings", &finding->warnings);
 	notes_write(&json, "notes", &finding->notes);
-	json_list(&json, "region");
-	for (unsigned block = 0; block < region->size; block++)
-		look_write(&json, region, block);
-	json_end(&json);
+	look_write_region(&json, region);
 	json_truth(&json, "settled", finding->refusal == REAM_OK);
 	write_refusal(&json, finding->refusal);
 	if (finding->refusal == REAM_OK) {

@@ -13,28 +13,36 @@ static unsigned ask(struct plan *plan)
 {
 	const struct region *from = &plan->snapshot;
 	const size_t image_len = region_image_len(from), status_len = region_status_len(from);
+	uint8_t *steps = plan->steps + REAM_STEP_SIZE * plan->before;
 	uint64_t answer;
 
 	if (plan->updates)
 		answer = ream_update_plan(from->n, from->size, from->image, image_len, from->status, status_len,
 					  plan->wanted, ream_bitmap_size(from->n), plan->failed, plan->failures,
-					  plan->steps, sizeof(plan->steps));
+					  steps, REAM_STEPS_SIZE);
 	else
 		answer = ream_recovery_plan(from->n, from->size, from->image, image_len, from->status,
-					    status_len, plan->failed, plan->failures, plan->steps,
-					    sizeof(plan->steps));
-	plan->version = ream_refusal(answer) == REAM_OK ? ream_version(answer) : 0;
-	plan->count = ream_refusal(answer) == REAM_OK ? ream_step_count(answer) : 0;
+					    status_len, plan->failed, plan->failures, steps, REAM_STEPS_SIZE);
+	plan->version = ream_ok(answer) ? ream_version(answer) : 0;
+	plan->count = ream_ok(answer) ? plan->before + ream_step_count(answer) : 0;
 	return ream_refusal(answer);
+}
+
+/* Begins a plan from a snapshot: no step has failed, none stands before it, and none stays undone. */
+static void begin(struct plan *plan, const struct region *region, bool updates)
+{
+	plan->snapshot = *region;
+	plan->updates = updates;
+	plan->failures = 0;
+	plan->before = 0;
+	plan->undone = 0;
 }
 
 unsigned plan_make(struct plan *plan, const struct region *region, const uint8_t *wanted)
 {
-	plan->snapshot = *region;
-	plan->updates = wanted != NULL;
+	begin(plan, region, wanted != NULL);
 	if (wanted)
 		memcpy(plan->wanted, wanted, ream_bitmap_size(region->n));
-	plan->failures = 0;
 	return ask(plan);
 }
 
@@ -46,6 +54,45 @@ unsigned plan_anew(struct plan *plan, uint8_t number)
 		abort();
 	}
 	plan->failed[plan->failures++] = number;
+	return ask(plan);
+}
+
+/* ---- a first pair */
+
+/* Adds a step on a block of the region to those before the library's plan. */
+static void add_before(struct plan *plan, enum ream_step_kind kind, unsigned block, unsigned page)
+{
+	const unsigned chip_block = (unsigned)region_first(&plan->snapshot) + block;
+	uint8_t *step = plan->steps + REAM_STEP_SIZE * plan->before++;
+
+	step[0] = (uint8_t)kind;
+	step[1] = (uint8_t)(chip_block >> 8);
+	step[2] = (uint8_t)chip_block;
+	step[3] = (uint8_t)page;
+}
+
+/* Writes a page of the primary into the snapshot. No number of it is outside its range, so it is not refused. */
+static void write_primary(struct region *region, const struct first *first, unsigned page)
+{
+	const uint64_t answer = ream_table_page(region->n, region->size, first->bitmap, ream_bitmap_size(region->n),
+						REAM_PRIMARY, first->version, page,
+						region_data(region, first->block, page), PAGE_BYTES);
+
+	if (ream_ok(answer))
+		return;
+	complain("page %u of the primary is refused: %s", page, ream_refusal_text(ream_refusal(answer)));
+	abort();
+}
+
+unsigned plan_first(struct plan *plan, const struct region *region, const struct first *first)
+{
+	begin(plan, region, false);
+	region_erase(&plan->snapshot, first->block);
+	add_before(plan, REAM_ERASE, first->block, 0);
+	for (unsigned page = 0; page < region->pages; page++) {
+		write_primary(&plan->snapshot, first, page);
+		add_before(plan, REAM_WRITE, first->block, page);
+	}
 	return ask(plan);
 }
 
@@ -70,8 +117,9 @@ unsigned plan_block(const struct plan *plan, const struct ream_step *step)
 	return (unsigned)(step->block - region_first(&plan->snapshot));
 }
 
-/* The library proves that a page of its own plan is not refused, so this does not come back with one. */
-void plan_page(const struct plan *plan, unsigned i, uint8_t page[PAGE_BYTES])
+/* Asks for the page of step i of the library's plan. The library proves that it is not refused, so this does not come
+ * back with a refusal. */
+static void ask_page(const struct plan *plan, unsigned i, uint8_t page[PAGE_BYTES])
 {
 	const struct region *from = &plan->snapshot;
 	const size_t image_len = region_image_len(from), status_len = region_status_len(from);
@@ -84,10 +132,20 @@ void plan_page(const struct plan *plan, unsigned i, uint8_t page[PAGE_BYTES])
 	else
 		answer = ream_recovery_page(from->n, from->size, from->image, image_len, from->status,
 					    status_len, plan->failed, plan->failures, i, page, PAGE_BYTES);
-	if (ream_refusal(answer) == REAM_OK)
+	if (ream_ok(answer))
 		return;
 	complain("the page of step %u is refused: %s", i, ream_refusal_text(ream_refusal(answer)));
 	abort();
+}
+
+void plan_page(const struct plan *plan, unsigned i, uint8_t page[PAGE_BYTES])
+{
+	const struct ream_step step = plan_step(plan, i);
+
+	if (i >= plan->before)
+		ask_page(plan, i - plan->before, page);
+	else
+		memcpy(page, region_page(&plan->snapshot, plan_block(plan, &step), step.page), PAGE_BYTES);
 }
 
 /* ---- carrying out */
@@ -100,7 +158,7 @@ bool plan_go_through(const struct plan *plan, bool (*step)(const struct plan *pl
 		const bool failed = then.failures < plan->failures;
 
 		ask(&then);
-		for (unsigned i = 0; i < (failed ? plan->failed[then.failures] : then.count); i++)
+		for (unsigned i = 0; i < (failed ? plan->failed[then.failures] : then.count - plan->undone); i++)
 			if (!step(&then, i, to))
 				return false;
 	}

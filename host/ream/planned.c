@@ -14,16 +14,13 @@
 #include "table.h"
 #include "tool.h"
 
-#define APPLY_HELP \
+#define PLAN_HELP \
 	"  --failed S,S,..       the steps that failed on the chip, oldest first, each by\n" \
 	"                        its number in the plan as it was then: plans anew; the\n" \
 	"                        dump is the one that the first plan was made from\n" \
 	"  --apply OUT           carries the plan out on a copy of the dump, OUT, after\n" \
 	"                        what was done before steps failed\n" \
-	"  --status-out FILE     with --apply: writes the status file that belongs to it\n" \
-	"  --pages DIR           writes the page of each step but the erases, as a file\n" \
-	"                        in the folder DIR\n" \
-	"  --force               replaces files that are there already\n" \
+	APPLY_HELP \
 	DUMP_HELP
 
 static const char update_help[] =
@@ -38,7 +35,7 @@ static const char update_help[] =
 	"\n"
 	"  --mark-late B,B,..    the chip blocks to mark, numbers or ranges as in\n"
 	"                        7,12-15; given several times, all of them are marked\n"
-	APPLY_HELP;
+	PLAN_HELP;
 
 static const char recover_help[] =
 	"usage: ream recover [--failed S,S,..] [--apply OUT [--status-out FILE]]\n"
@@ -49,7 +46,7 @@ static const char recover_help[] =
 	"Plans the recovery of a pair of bad-block tables, as after a power cut. Where\n"
 	"there is nothing to recover from, or to, it is refused, with exit status 1.\n"
 	"\n"
-	APPLY_HELP;
+	PLAN_HELP;
 
 /* What a command is asked for, and what it comes to. */
 struct job {
@@ -77,19 +74,13 @@ static enum parsed take(struct job *job, struct syntax *syntax, int argc, char *
 	job->command = syntax->command;
 	dump_options(syntax, &job->shape);
 	args_add(syntax, (struct argument){ .name = "failed", .texts = &job->failed_lists, .empty = true });
-	args_add(syntax, (struct argument){ .name = "apply", .text = &job->applying.out });
-	args_add(syntax, (struct argument){ .name = "status-out", .text = &job->applying.status_out });
-	args_add(syntax, (struct argument){ .name = "pages", .text = &job->applying.pages });
-	args_add(syntax, (struct argument){ .name = "force", .flag = &job->applying.force });
+	apply_options(syntax, &job->applying);
 	args_add(syntax, (struct argument){ .name = "json", .flag = &job->json });
 	parsed = args_parse(syntax, argc, argv, &file);
 	if (parsed != PARSED)
 		return parsed;
-	if (job->applying.status_out && !job->applying.out) {
-		complain("%s: --status-out: expected --apply beside it", job->command);
-		return PARSED_WRONG;
-	}
-	return failed_take(&job->failed_lists, &job->failed) && dump_read(&job->dump, file, &job->shape)
+	return apply_beside(&job->applying, job->command, "--status-out", job->applying.status_out) &&
+	       failed_take(&job->failed_lists, &job->failed) && dump_read(&job->dump, file, &job->shape)
 		       ? PARSED : PARSED_WRONG;
 }
 
@@ -123,30 +114,6 @@ static void print_refused(const struct job *job)
 		printf("  --failed goes with the dump that the first plan was made from, as it was then\n");
 }
 
-/* What was written, and the pair that is there then. */
-static void print_after(const struct job *job)
-{
-	struct settled table;
-
-	outputs_print(&job->application.outputs);
-	if (!job->applying.out)
-		return;
-	if (table_read(&job->application.after, &table) == REAM_OK)
-		table_print_pair(&table);
-}
-
-static void write_after(struct json *json, const struct job *job)
-{
-	struct settled table;
-
-	outputs_write(json, &job->application.outputs);
-	if (table_read(&job->application.after, &table) != REAM_OK)
-		return;
-	json_object(json, "after");
-	table_write_pair(json, &table);
-	json_end(json);
-}
-
 static void write_job(const struct job *job)
 {
 	struct json json = json_begin(stdout);
@@ -162,7 +129,7 @@ static void write_job(const struct job *job)
 		else
 			differ_write(&json, &job->dump.region);
 		steps_write(&json, &job->plan, job->dump.pages_per_block, job->applying.pages != NULL);
-		write_after(&json, job);
+		apply_write(&json, &job->application);
 	}
 	json_end(&json);
 }
@@ -182,7 +149,7 @@ static bool carry_out(struct job *job)
 	if (job->json)
 		write_job(job);
 	else
-		print_after(job);
+		apply_print(&job->application);
 	return true;
 }
 

@@ -467,7 +467,7 @@ for limit in 8:4:5 8:4:7 12:6:7; do
 	expect 0 "primary in block $((blocks - most)), mirror in block $((blocks - 1))" pair $within $most small
 	expect 2 "$wrong" pair $within $size small
 	for command in "pair small" "update --mark-late 1 --apply none small" "recover --apply none small" \
-		"simulate --dump none"; do
+		"init --apply none small" "simulate --dump none"; do
 		expect_none none 2 "$wrong" $command --blocks $blocks $within $size
 	done
 	expect 0 "no rule broken" simulate --blocks $blocks --region-blocks $most
@@ -535,8 +535,9 @@ two="--blocks 8196 --pages-per-block 2"
 { primary 005; blank; blank; blank; blank; blank; mirror 005; blank; } >by_linux
 expect 1 "pair: refused, 7" pair $two by_linux
 for block in 8192 8195; do
-	notes "note: block $block is a copy with its header on page 0 only, as Linux writes it above 8,192 blocks, and as a chip"
-	notes "and as a chip of 8,192 blocks or fewer has it. The library wants the header on all 2 pages (docs/LINUX.md)"
+	notes "note: block $block is a copy with its header on page 0 only, as Linux writes it above 8,192 blocks, as a power cut"
+	notes "as a power cut in the making of a first pair leaves it, and as a chip of 8,192 blocks or fewer has it. The library"
+	notes "fewer has it. The library wants the header on all 2 pages (docs/LINUX.md)"
 done
 # the commands of docs/LINUX.md, as printed
 mkdir linux
@@ -952,6 +953,372 @@ cat all/step-0[1-4]* >expected
 dd if=all_applied bs=8448 count=1 of=found 2>/dev/null
 check "the pages in their names' order are the copy" cmp expected found
 
+# ---- init
+
+new_chip() { # BLOCKS PAGES BAD..: a blank chip without a table, as the file new, with these blocks marked bad
+	pages=$2
+	ff $(($1 * pages * 2112)) >new
+	shift 2
+	for bad_block; do
+		poke new $((bad_block * pages * 2112 + 2048)) '\000'
+	done
+}
+bitmap_of() { # BLOCKS BAD..: the bitmap with these blocks factory and all others good
+	printf "$(echo "$*" | tr ' ' '\n' | awk 'NR == 1 { blocks = $1; next } { bad[$1] = 1 } END {
+		for (i = 0; i < blocks; i += 4) {
+			byte = 0
+			for (j = i + 3; j >= i; j--)
+				byte = 4 * byte + (j in bad ? 0 : 3)
+			printf "\\%03o", byte
+		} }')"
+}
+put_copy() { # FILE BLOCK PAGES COUNT KIND VERSION: of the table in the file bitmap, COUNT pages of a block that is erased
+	ff $(($3 * 2112)) | dd of="$1" bs=2112 seek=$(($2 * $3)) conv=notrunc 2>/dev/null
+	part=0
+	while [ $part -lt "$4" ]; do
+		$5 "$6" >part_page
+		dd if=bitmap of=part_page bs=2048 skip=$part count=1 conv=notrunc 2>/dev/null
+		dd if=part_page of="$1" bs=2112 seek=$(($2 * $3 + part)) conv=notrunc 2>/dev/null
+		part=$((part + 1))
+	done
+}
+
+new_chip 16 1
+expect_none made 0 "init: 4 steps, to version 1" init --pages-per-block 1 new
+plan_is "erase 15 -, write 15 0, erase 14 -, write 14 0"
+says "chip: 16 blocks (by the dump's size), 1 page a block (told)"
+says "  block 15: erased"
+says "bitmap: by the marks in the dump"
+says "entries: 16 good, 0 reserved, 0 late, 0 factory"
+says "primary: block 15 (assumed), version 1 (assumed)"
+says "     1  write     15     0  0x000007800"
+says_not "pair: "
+cp new new_before
+expect 0 "pair: settled, version 1, primary in block 15, mirror in block 14" init --pages-per-block 1 --apply made new
+says "dump written: made"
+says_not "cut: "
+{ ff $((14 * 2112)); mirror 001; primary 001; } >expected
+check "the first pair on a blank chip" cmp expected made
+check "the dump that is read stays as it is" cmp new_before new
+expect 0 "pair: settled, version 1, primary in block 15, mirror in block 14" pair --pages-per-block 1 made
+expect 0 "pair: settled, version 2, primary in block 15, mirror in block 14" \
+	update --pages-per-block 1 --mark-late 5 --apply made_marked made
+# what it is told, it takes
+for version in 0:000 1:001 255:377; do
+	expect 0 "init: 4 steps, to version ${version%:*}" init --pages-per-block 1 --version ${version%:*} --apply made \
+		--force new
+	says "version ${version%:*} (told)"
+	{ ff $((14 * 2112)); mirror ${version#*:}; primary ${version#*:}; } >expected
+	check "a version that is told" cmp expected made
+done
+for block in 12:15 13:15 14:15 15:14; do
+	expect 0 "pair: settled, version 1, primary in block ${block%:*}, mirror in block ${block#*:}" \
+		init --pages-per-block 1 --block ${block%:*} --apply made --force new
+	says "primary: block ${block%:*} (told), version 1 (assumed)"
+	expect 0 "primary in block ${block%:*}, mirror in block ${block#*:}" pair --pages-per-block 1 made
+done
+
+# blocks that the factory has marked: fewer and fewer are left, and then one, and then none
+for size in 4 5 6 7; do
+	marked=3
+	left=$size
+	while [ $left -ge 0 ]; do
+		high=$((16 - size + left - 1))
+		low=$((high - 1))
+		new_chip 16 1 $marked
+		bitmap_of 16 $marked >bitmap
+		if [ $left -ge 2 ]; then
+			expect 0 "pair: settled, version 1, primary in block $high, mirror in block $low" \
+				init $within $size --apply made --force new
+			plan_is "erase $high -, write $high 0, erase $low -, write $low 0"
+			cp new expected
+			put_copy expected $high 1 1 primary 001
+			put_copy expected $low 1 1 mirror 001
+			check "a region of $size blocks, of which $left are left" cmp expected made
+			expect 0 "primary in block $high, mirror in block $low" pair $within $size made
+			says "entries: $((15 - size + left)) good, 0 reserved, 0 late, $((1 + size - left)) factory"
+			says "  block 3: factory"
+		elif [ $left -eq 1 ]; then
+			expect_none none 1 "init: refused, 11: there is no block to write a copy to" \
+				init $within $size --apply none --pages none new
+			says "  every block but $high is readable as bad: the primary would stand alone there"
+		else
+			expect_none none 1 "init: refused, 7: there is no good primary and no good mirror" \
+				init $within $size --apply none --pages none new
+			says "  every block of the region is readable as bad: there is none for a table"
+		fi
+		marked="$marked $high"
+		left=$((left - 1))
+	done
+done
+# wherever they are, and however a block is readable as bad
+for bads in "15:14 13" "14:15 13" "13:15 14" "12:15 14" "12 15:14 13" "13 15:14 12" "13 14:15 12"; do
+	new_chip 16 1 ${bads%:*}
+	pair=${bads#*:}
+	expect 0 "primary in block ${pair% *}, mirror in block ${pair#* }" init $within 4 --apply made --force new
+done
+new_chip 16 1
+dd if=/dev/zero of=new bs=1 seek=$((15 * 2112 + 2048)) count=64 conv=notrunc 2>/dev/null
+for unreadable in "" "--unreadable 15:0"; do
+	expect 0 "primary in block 14, mirror in block 13" init $within 4 $unreadable --apply made --force new
+	says "  block 15: bad (retired)"
+	says "  block 15: factory"
+done
+# an unreadable page with another OOB is not, nor is a signature
+poke new $((15 * 2112 + 2111)) '\377'
+expect 0 "primary in block 14, mirror in block 13" init $within 4 --apply made --force new
+says "  block 15: factory"
+expect 0 "primary in block 15, mirror in block 14" init $within 4 --unreadable 15:0 --apply made --status-out made_status \
+	--force new
+says "entries: 16 good, 0 reserved, 0 late, 0 factory"
+printf '\000\000\000\000' >expected
+check "what is written reads well" cmp expected made_status
+mirror 001 | dd of=new bs=2112 seek=15 conv=notrunc 2>/dev/null
+poke new $((15 * 2112 + 2048)) '\000'
+expect 1 "init: there is a table already" init $within 4 new
+expect 0 "primary in block 15, mirror in block 14" init $within 4 --unreadable 15:0,12:0 --apply made \
+	--status-out made_status --force new
+printf '\001\000\000\000' >expected
+check "what is not written stays unreadable" cmp expected made_status
+
+# a bitmap that is told, with the dump of the region or of the chip; its marks do not count then
+printf '\377\033\344\377' >bitmap
+new_chip 16 1 2 14
+dd if=new of=new_region bs=2112 skip=12 2>/dev/null
+cp new expected
+put_copy expected 15 1 1 primary 001
+put_copy expected 13 1 1 mirror 001
+expect 0 "pair: settled, version 1, primary in block 15, mirror in block 13" \
+	init --pages-per-block 1 --bitmap bitmap --apply made --force new
+says "bitmap: bitmap (told)"
+says "entries: 10 good, 2 reserved, 2 late, 2 factory"
+check "a bitmap that is told" cmp expected made
+dd if=expected of=expected_region bs=2112 skip=12 2>/dev/null
+expect 0 "pair: settled, version 1, primary in block 15, mirror in block 13" \
+	init $chip --bitmap bitmap --apply made --force new_region
+check "a bitmap that is told, with a dump of the region" cmp expected_region made
+expect 0 "entries: 10 good, 2 reserved, 2 late, 2 factory" pair $chip made
+for entry in " 5: reserved" " 6: late" "s 7-8: factory" " 9: late" " 10: reserved"; do
+	says "  block$entry"
+done
+expect_none none 2 "init: expected --bitmap, as the last four blocks alone do not show the marks of all" \
+	init $chip --apply none new_region
+
+# every P and every size of the region: what was in the two blocks is erased, to their last page; other blocks stay
+pattern() { # BLOCKS: a bitmap in which every byte differs from the next
+	printf "$(awk -v bytes=$(($1 / 4)) 'BEGIN {
+		for (i = 0; i < bytes; i++)
+			printf "\\%03o", (7 * i + int(i / 256)) % 256 }')"
+}
+used_region() { # SIZE PAGES: of so many blocks of so many pages, none of them blank, as the file new
+	ff $(($1 * $2 * 2112)) | tr '\377' 'u' >new
+}
+for blocks in 16 8196 16388 32768; do
+	count=$(((blocks + 8191) / 8192))
+	pattern $blocks >bitmap
+	for size in 4 5 6 7; do
+		shape="--blocks $blocks --region-blocks $size --pages-per-block $((count + 1))"
+		used_region $size $((count + 1))
+		cp new expected
+		put_copy expected $((size - 1)) $((count + 1)) $count primary 376
+		put_copy expected $((size - 2)) $((count + 1)) $count mirror 376
+		expect 0 "pair: settled, version 254, primary in block $((blocks - 1)), mirror in block $((blocks - 2))" \
+			init $shape --bitmap bitmap --version 254 --apply made --force new
+		says "init: $((2 * count + 2)) steps, to version 254"
+		says "  block $((blocks - 1)): other"
+		check "the first pair, $count pages, in a region of $size blocks" cmp expected made
+		expect 0 "pair: settled, version 254" pair $shape made
+		check "the entries that are told are the pair's" \
+			[ "$(grep '^entries: ' out)" = "$("$ream" init $shape --bitmap bitmap new | grep '^entries: ')" ]
+	done
+done
+
+# a cut after every step, and in every step; then again
+cut_shape() { # BLOCKS SIZE
+	blocks=$1
+	size=$2
+	count=$(((blocks + 8191) / 8192))
+	shape="--blocks $blocks --region-blocks $size --pages-per-block $((count + 1))"
+	pattern $blocks >bitmap
+	used_region $size $((count + 1))
+	first="init $shape --bitmap bitmap --version 255"
+	expect 0 "pair: settled, version 255" $first --apply whole_pair --force new
+	so_far=0
+	while [ $so_far -le $((2 * count + 2)) ]; do
+		expect 0 "dump written: cut" $first --steps $so_far --apply cut --force new
+		cut_after $so_far
+		so_far=$((so_far + 1))
+	done
+}
+cut_after() { # STEPS: are done
+	block=$((blocks - 1 - $1 / (count + 1)))
+	if [ "$1" -eq $((2 * count + 2)) ]; then
+		says_not "cut: "
+		check "all steps are the whole plan" cmp whole_pair cut
+		expect_none none 1 "its pair is settled, version 255; an update marks blocks" $first --apply none cut
+		return
+	fi
+	says "cut: $1 of $((2 * count + 2)) steps done"
+	# the next step is not begun, or leaves what it is on unreadable
+	page=$(($1 % (count + 1) - 1))
+	torn="$block:$page"
+	[ $page -ge 0 ] || torn=$(seq -s , -f "$block:%g" 0 $((count - 1)))
+	if [ "$1" -le $count ]; then
+		says "  no copy is good; the first pair is made from the start (ream init)"
+		expect 1 "pair: refused, 7" pair $shape cut
+		for unreadable in "" "--unreadable $torn"; do
+			expect 0 "pair: settled, version 255" $first $unreadable --apply again --force cut
+			check "a first pair cut after $1 steps is made from the start" cmp whole_pair again
+		done
+	else
+		says "  the primary stands alone; a recovery makes the mirror (ream recover)"
+		says "  block $((blocks - 1)): primary v255"
+		expect 1 "pair: refused, 10" pair $shape cut
+		for unreadable in "" "--unreadable $torn"; do
+			expect_none none 1 "init: there is a table already, so no first pair is made" \
+				$first $unreadable --apply none cut
+			says "  its pair is not settled; a recovery settles it (ream recover)"
+			expect 0 "pair: settled, version 255" recover $shape $unreadable --apply again --force cut
+			check "a first pair cut after $1 steps is recovered" cmp whole_pair again
+		done
+	fi
+}
+cut_shape 16 4
+cut_shape 8196 5
+cut_shape 16388 6
+cut_shape 32768 7
+used_region 4 2
+expect 0 "cut: 0 of 4 steps done" init --blocks 16 --pages-per-block 2 --bitmap status --steps 0 --apply cut --force new
+check "no step leaves the dump as it is" cmp new cut
+# a page that is unreadable stays so in the status file, unless its block is erased
+expect 0 "cut: 1 of 4 steps done" init --blocks 16 --pages-per-block 2 --bitmap status --unreadable 15:0,14:0 --steps 1 \
+	--apply cut --status-out cut_status --force new
+printf '\000\000\001\000' >expected
+check "the status file of a cut" cmp expected cut_status
+# the cut of a first pair that has a page alone is told beside Linux's
+new_chip 8196 2 17 8194
+bitmap_of 8196 17 8194 >bitmap
+expect 0 "cut: 2 of 6 steps done" init --pages-per-block 2 --steps 2 --apply cut --force new
+expect 0 "init: 6 steps, to version 1" init --pages-per-block 2 --apply made --force cut
+notes "note: block 8195 is a copy with its header on page 0 only, as Linux writes it above 8,192 blocks, as a power cut in the"
+notes "making of a first pair leaves it, and as a chip of 8,192 blocks or fewer has it."
+says "  block 17: factory"
+says "  block 8194: factory"
+put_copy new 8195 2 2 primary 001
+put_copy new 8193 2 2 mirror 001
+check "the first pair on a chip of 8196 blocks, by its marks, after a cut" cmp new made
+rm new cut made
+
+# a table that is there already: nothing is written, and it is told what is there and what to do
+printf '\377\377\377\377' >bitmap
+for dump in settled whole newer one_mirror differing several opposite no_target; do
+	told="$chip --bitmap bitmap"
+	[ $dump != whole ] || told="--pages-per-block 1"
+	expect_none none 1 "init: there is a table already, so no first pair is made" \
+		init $told --apply none --status-out none --pages none $dump
+	says_not "steps"
+	case $dump in
+	settled | whole) says "  its pair is settled, version 5; an update marks blocks in it (ream update)" ;;
+	several) says "recovery: refused, 8: there are two or more good copies of one kind" ;;
+	opposite) says "recovery: refused, 9: the versions of primary and mirror are 128 apart" ;;
+	no_target) says "recovery: refused, 11: there is no block to write a copy to" ;;
+	*) says "  its pair is not settled; a recovery settles it (ream recover)" ;;
+	esac
+done
+says "  every block but the good copy's is readable as bad"
+says "  block 12: primary v5"
+expect 1 "init: there is a table already" init $chip settled
+expect 0 "init: 4 steps" init $chip --bitmap bitmap --unreadable 12:0,15:0 settled
+# numbers that the dump contradicts
+make_dump 16 64 5 6 >below
+expect_warned 0 "last four blocks; --region-blocks 6 would have it found" "init: 4 steps, to version 1" init below
+expect 1 "init: there is a table already" init --region-blocks 6 below
+expect_warned 1 "behind the bitmap of 8 blocks" "init: there is a table already" init --blocks 8 last_four
+
+# the pages, as files
+new_chip 16 1 14
+bitmap_of 16 14 >bitmap
+expect 0 "     1  write     15     0  0x000007800  step-01-block-15-page-0.bin" \
+	init --pages-per-block 1 --pages first_images new
+says "page written: first_images/step-03-block-13-page-0.bin"
+cp new expected
+put_copy expected 15 1 1 primary 001
+put_copy expected 13 1 1 mirror 001
+dd if=first_images/step-01-block-15-page-0.bin of=new bs=2112 seek=15 conv=notrunc 2>/dev/null
+dd if=first_images/step-03-block-13-page-0.bin of=new bs=2112 seek=13 conv=notrunc 2>/dev/null
+check "the pages of a first pair, written by hand" cmp expected new
+check "a file for each page of the first pair" [ "$(ls first_images | wc -l)" -eq 2 ]
+pattern 32768 >bitmap
+used_region 7 4
+expect 0 "init: 10 steps, to version 1" init --blocks 32768 --region-blocks 7 --pages-per-block 4 --bitmap bitmap \
+	--pages all_first --apply made --force new
+check "all pages of the longest first pair" [ "$(ls all_first | wc -l)" -eq 8 ]
+cat all_first/step-0[1-4]* >expected
+tail -c 8448 made >found
+check "the primary's pages in their names' order are the copy" cmp expected found
+
+# wrong arguments and files
+new_chip 16 1 14
+printf '\377\377\377\377' >bitmap
+first="init --pages-per-block 1 --apply none"
+for len in 0 3 5 16; do
+	ff 16 | dd bs=1 count=$len of=other_bitmap 2>/dev/null
+	expect_none none 2 "other_bitmap: ends at offset $len, expected 4 bytes, two bits for each of the chip's 16 blocks (" \
+		$first --bitmap other_bitmap new
+	check "the refusal is named" grep -qF -e "(refusal 1: a lent buffer has the wrong length)" err
+done
+expect_none none 2 "missing: cannot be read" $first --bitmap missing new
+expect_none none 2 ".: expected a regular file or a pipe" $first --bitmap . new
+expect_none none 2 "--bitmap: expected a value, found an empty one" $first --bitmap= new
+for version in 256 -1 99999999999999999999999; do
+	expect_none none 2 "init: --version $version: out of range, expected a number from 0 to 255 (refusal 2: a number is" \
+		$first --version=$version new
+done
+expect_none none 2 "--version 1.0: expected a number from 0 to 255" $first --version 1.0 new
+for block in 0 11 16 1022 32767; do
+	expect_none none 2 "init: --block $block: out of range, expected one of the last four blocks, 12 to 15" \
+		$first --block $block new
+done
+for block in 32768 -1 99999999999999999999999; do
+	expect_none none 2 "init: --block $block: out of range, expected a number from 0 to 32767" $first --block=$block new
+done
+expect_none none 2 "--block x: expected a number from 0 to 32767" $first --block x new
+expect_none none 2 "init: --block 14: is readable as bad, expected one of the last four blocks, 12 to 15, that is not" \
+	$first --block 14 new
+expect_none none 2 "init: --block 8: out of range, expected one of the last seven blocks, 9 to 15" \
+	$first --region-blocks 7 --block 8 new
+for steps in 5 10; do
+	expect_none none 2 "init: --steps $steps: expected at most 4, as the plan has no more" $first --steps $steps new
+done
+for steps in 11 -1; do
+	expect_none none 2 "init: --steps $steps: out of range, expected a number from 0 to 10" $first --steps=$steps new
+done
+expect 2 "init: --steps: expected --apply beside it" init --pages-per-block 1 --steps 2 new
+expect_none none 2 "init: --status-out: expected --apply beside it" init --pages-per-block 1 --status-out none new
+for option in "--bitmap bitmap" "--version 1" "--block 15" "--steps 1" "--apply none" "--pages none_pages" "--json"; do
+	expect_none none 2 "init: ${option%% *}: is given twice; expected it once" \
+		init --pages-per-block 1 $option $option new
+done
+for option in "--bit bitmap" "--vers 1" "--bloc 15" "--step 1"; do
+	expect_none none 2 "${option%% *}: no such option" $first $option new
+done
+expect_none none 2 "--failed: no such option" $first --failed 1 new
+expect_none none 2 "--mark-late: no such option" $first --mark-late 1 new
+expect 2 "init: no file; expected DUMP as the last argument" init --pages-per-block 1
+expect 2 "one argument too many" init --pages-per-block 1 new new
+expect 2 "new: ends at offset 33792; expected 67584 bytes, all 32 blocks of 1 page" init --blocks 32 --pages-per-block 1 new
+# its files
+expect_none none 2 "bitmap: is the file that is read" $first --status-out bitmap --bitmap bitmap --force new
+expect_none none 2 "./bitmap: is the file that is read, bitmap" $first --status-out ./bitmap --bitmap bitmap --force new
+expect 2 "new: is the file that is read" init --pages-per-block 1 --apply new --force new
+printf '\377\377\377\377' >expected
+check "a bitmap that is read stays as it is" cmp expected bitmap
+for other in "- bitmap and the dump" "new bitmap and the status file"; do
+	options="--bitmap - "
+	[ "${other%% *}" = - ] || options="--bitmap - --status -"
+	expect_none none 2 "-: is named for two files to read, the ${other#* }" $first $options "${other%% *}"
+done
+
 # ---- wrong arguments and files
 
 for blocks in 0 4 10 32772 99999999999 99999999999999999999999 -8; do
@@ -960,7 +1327,7 @@ for blocks in 0 4 10 32772 99999999999 99999999999999999999999 -8; do
 done
 for size in 0 3 8 99999999999 99999999999999999999999 -4; do
 	for command in "pair settled" "update --mark-late 1 --apply none settled" "recover --apply none settled" \
-		"simulate --dump none"; do
+		"init --apply none settled" "simulate --dump none"; do
 		expect_none none 2 "--region-blocks $size: out of range, expected a number from 4 to 7 (refusal 2: a number" \
 			$command --region-blocks "$size"
 	done
@@ -1046,6 +1413,12 @@ rm -f piped_out
 piped 0 "dump written: piped_out" newer recover $chip --apply piped_out -
 check "a pipe's dump is recovered as a file's" cmp recovered piped_out
 piped 0 "update: 4 steps" settled update $chip --mark-late 5 -
+new_chip 16 1 14
+"$ream" init --pages-per-block 1 --apply by_name --force new >out
+rm -f piped_out
+piped 0 "pair: settled, version 1" new init --pages-per-block 1 --apply piped_out -
+check "a pipe's dump gets its first pair as a file's" cmp by_name piped_out
+piped 0 "bitmap: standard input (told)" bitmap init --pages-per-block 1 --bitmap - new
 piped 2 "standard input: ends at offset 8447" short pair $chip -
 piped 1 "block 15: unreadable" status pair $chip --status - settled
 "$ream" pair $chip - <settled >out 2>err
@@ -1113,7 +1486,8 @@ check "the input is as it was" cmp settled input
 
 # nothing is told before the path of an output is refused
 for command in "recover $chip --apply there newer" "update $chip --mark-late 1 --apply missing/none settled" \
-	"recover $chip --apply none --status-out there newer" "simulate --svg there" "page --repaired there page"; do
+	"recover $chip --apply none --status-out there newer" "init --pages-per-block 1 --apply there new" \
+	"simulate --svg there" "page --repaired there page"; do
 	{ ff 512; printf '\000\000\001\243\001\377\126\000\377\377\377\000\142\377\377\377'; } >page
 	"$ream" $command >out 2>err
 	check "ream $command: exit status 2" [ $? -eq 2 ]
@@ -1637,6 +2011,42 @@ if command -v python3 >/dev/null && python3 -c 'import json' 2>/dev/null; then
 	cp settled "$odd"
 	json 0 pair $chip "$odd"
 	has "d['dump']['name'] == 'odd\ufffd\n\u00e9'"
+	new_chip 16 1 3 14
+	json 0 init --pages-per-block 1 new
+	has "d['command'] == 'init'" "d['chip']['blocks'] == 16" "d['dump']['whole_chip'] is True" "d['warnings'] == []" \
+		"d['notes'] == []" "[b['holds'] for b in d['region']] == ['erased', 'erased', 'bad', 'erased']" \
+		"d['found'] == 'no table'" "d['refusal'] is None" "d['bitmap_told'] is False" "d['block_told'] is False" \
+		"d['version_told'] is False" "d['entries'] == {'good': 14, 'reserved': 0, 'late': 0, 'factory': 2}" \
+		"[run['first'] for run in d['not_good']] == [3, 14]" "d['version'] == 1" \
+		"d['steps'] == [{'step': 0, 'does': 'erase', 'block': 15, 'address': 30720},
+			{'step': 1, 'does': 'write', 'block': 15, 'page': 0, 'address': 30720},
+			{'step': 2, 'does': 'erase', 'block': 13, 'address': 26624},
+			{'step': 3, 'does': 'write', 'block': 13, 'page': 0, 'address': 26624}]" \
+		"d['done'] == 4" "d['written'] == []" "d['after'] == {'version': 1, 'primary': 15, 'mirror': 13}"
+	json 0 init --pages-per-block 1 --bitmap bitmap --version 7 --block 12 --apply json_first --pages json_first_pages new
+	has "d['bitmap_told'] is True" "d['block_told'] is True" "d['version_told'] is True" "d['version'] == 7" \
+		"d['entries']['good'] == 16" "d['steps'][3]['file'] == 'step-03-block-15-page-0.bin'" \
+		"[w['what'] for w in d['written']] == ['dump', 'page', 'page']" \
+		"d['after'] == {'version': 7, 'primary': 12, 'mirror': 15}"
+	json 0 pair --pages-per-block 1 json_first
+	has "d['version'] == 7" "d['primary'] == 12" "d['mirror'] == 15" "d['entries']['good'] == 16"
+	for steps in 1 2; do
+		json 0 init --pages-per-block 1 --steps $steps --apply json_cut --force new
+		has "d['done'] == $steps" "len(d['steps']) == 4" "'after' not in d" "d['entries']['factory'] == 2"
+	done
+	json 1 init --pages-per-block 1 json_cut
+	has "d['found'] == 'not settled'" "d['refusal'] is None" "'steps' not in d" "'entries' not in d" \
+		"d['region'][3] == {'block': 15, 'holds': 'primary', 'version': 1, 'pages': 'P'}"
+	json 1 init $chip settled
+	has "d['found'] == 'settled'" "d['refusal'] is None" "'steps' not in d"
+	json 1 init $chip several
+	has "d['found'] == 'not settled'" "d['refusal']['number'] == 8"
+	new_chip 16 1 12 13 14
+	json 1 init --pages-per-block 1 new
+	has "d['found'] == 'no table'" "d['refusal']['number'] == 11" "'steps' not in d"
+	new_chip 16 1 12 13 14 15
+	json 1 init --pages-per-block 1 new
+	has "d['found'] == 'no table'" "d['refusal']['number'] == 7" "'steps' not in d"
 	json 0 page page
 	has "d['command'] == 'page'" "d['status'] == 255" "d['tag'] == 1" "d['tag_name'] == 'boot'" "d['path'] == 6" \
 		"d['boot_number'] == 1" "d['generation'] == 2" "d['count'] == 1" "d['repairs'] == 0" "d['repaired'] == []"
@@ -1893,7 +2303,7 @@ done
 
 # ---- help, and the manual
 
-for command in pair update recover page boot simulate; do
+for command in pair init update recover page boot simulate; do
 	expect 0 "usage: ream $command" $command --help
 	expect 0 "usage: ream $command" $command --help --nonsense
 	expect 0 "usage: ream $command" $command -h
@@ -1907,7 +2317,7 @@ expect 0 "usage: ream COMMAND" --help
 expect 0 "usage: ream COMMAND" -h
 expect 0 "usage: ream COMMAND" help
 expect 2 "pear: no such command" help pear
-expect 0 "ream 3.1" --version
+expect 0 "ream 3.2" --version
 
 check "no temporary file is left" test -z "$(find . -name '*.??????')"
 
@@ -1936,23 +2346,33 @@ sed -n '/^failed: step 2/,/^\.EE/p' "$manual" | sed '/^\.EE/d' | plain >printed
 expect 0 "update: 3 steps" update --blocks 1024 --mark-late 17 --failed 2 --pages anew_steps region.bin
 sed -n '/^failed: /,/^  a zero/p' out >found
 check "the manual prints the plan after a failed step as it is" cmp printed found
+sed -n '/^init: 4 steps/,/^\.EE/p' "$manual" | sed '/^\.EE/d' | plain >printed
+new_chip 4 64 2
+bitmap_of 1024 17 1022 >bitmap
+expect 0 "init: 4 steps" init --blocks 1024 --bitmap bitmap --pages first_steps new
+sed -n '/^init: /,/^ *3 /p' out >found
+check "the manual prints the plan of a first pair as it is" cmp printed found
+for made in again both; do
+	check "a first pair that was cut, and then made or recovered, is the manual's: $made" \
+		cmp manual/first.bin manual/$made.bin
+done
 sed -n '/^dump: 2 blocks/,/^\.EE/p' "$manual" | sed '/^\.EE/d' | plain >printed
 blocks_of 0:0 0:1 | "$ream" boot --spares - >found
 check "the manual prints the map of boot blocks as it is" cmp printed found
 sed -n '/^\.EX/,/^\.EE/p' "$manual" | plain | awk '/^# (nanddump|flash_erase|nandwrite|mtdpart) / { on = 1 }
 	on { print } !/\\$/ { on = 0 }' | sed 's|^# ||; s|/dev/mtd[0-9]|no_chip|' >chip_commands
-check "the manual has the commands for a chip" [ "$(grep -c '^[a-z]' chip_commands)" -eq 11 ]
+check "the manual has the commands for a chip" [ "$(grep -c '^[a-z]' chip_commands)" -eq 18 ]
 sed -n 's|^    \([a-z]*\)/\(step-.*\)|\1 \2|p' chip_commands >named
 while read -r folder name; do
-	[ "$folder" = steps ] || folder=anew_steps
+	[ "$folder" = steps ] || folder=${folder}_steps
 	check "the manual names files as they are: $name" [ -s "$folder/$name" ]
 done <named
-check "the manual writes every page" [ "$(grep -c . named)" -eq 4 ]
+check "the manual writes every page" [ "$(grep -c . named)" -eq 6 ]
 if command -v nanddump >/dev/null && command -v flash_erase >/dev/null && command -v nandwrite >/dev/null &&
 	command -v mtdpart >/dev/null; then
 	sh ./chip_commands >out 2>&1
 	check "mtd-utils take the commands' options" [ -z "$(grep -i 'usage\|unrecognized\|invalid\|parse\|--help' out)" ]
-	check "mtd-utils come as far as the chip" [ "$(grep -c 'error!' out)" -ge 11 ]
+	check "mtd-utils come as far as the chip" [ "$(grep -c 'error!' out)" -ge 18 ]
 else
 	skipped "the manual's commands for a chip: there are no mtd-utils"
 fi

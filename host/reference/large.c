@@ -332,24 +332,27 @@ static enum refusal recovery_judge(const struct region *region, struct plan *pla
 
 /* ---- page images */
 
-/* The page that a write puts down: its part of the table, where "the rest of the last page is written FF"; "in
- * OOB 14-17 its signature, and in OOB 18 its version"; in OOB 0-13 "images carry FF", "and in 19-63". */
-static void page_lay_out(const struct region *region, const struct plan *plan, const struct step *step,
-			 uint8_t *page)
+/* A page of a copy of a table: its part of the table, where "the rest of the last page is written FF"; "in OOB 14-17
+ * its signature, and in OOB 18 its version"; in OOB 0-13 "images carry FF", "and in 19-63". */
+static void page_lay_out(const struct region *region, const uint8_t *table, enum kind kind, uint8_t version,
+			 size_t number, uint8_t *page)
 {
 	memset(page, 0xFF, PAGE);
-	memcpy(page, plan->table + step->page * DATA, part_len(region, step->page));
-	memcpy(page + DATA + 14, signature[step->copy], 4);
-	page[DATA + 18] = plan->version;
+	memcpy(page, table + number * DATA, part_len(region, number));
+	memcpy(page + DATA + 14, signature[kind], 4);
+	page[DATA + 18] = version;
 }
 
 /* "Steps are numbered from 0." "A step number past the plan's end, or of an erase": refusal 2, which comes
  * last. Document 02: "its zero step, like an erase, has no page image". */
 static enum refusal page_image(const struct region *region, const struct plan *plan, uint64_t number, uint8_t *page)
 {
+	const struct step *step;
+
 	if (number >= plan->count || plan->step[number].kind != WRITE)
 		return OUT_OF_RANGE;
-	page_lay_out(region, plan, &plan->step[number], page);
+	step = &plan->step[number];
+	page_lay_out(region, plan->table, step->copy, plan->version, step->page, page);
 	return ANSWERED;
 }
 
@@ -522,4 +525,22 @@ uint64_t ref_recovery_page(uint64_t n, uint64_t size, const uint8_t *image, size
 	if (refusal != ANSWERED)
 		return refusal;
 	return page_image(&region, &plan, step, page);
+}
+
+/* A page of any table. The documents do not ask for it by itself: the manual does, by a kind, 1 for a primary and 2 for
+ * a mirror, a version, 0 to 255, and a number, 0 to P - 1. These are "other arguments", judged after lengths. */
+uint64_t ref_table_page(uint64_t n, uint64_t size, const uint8_t *bitmap, size_t bitmap_len, uint64_t kind,
+			uint64_t version, uint64_t number, uint8_t *page, size_t page_len)
+{
+	const struct region region = { n, size, pages_of(n), NULL, NULL };
+
+	if (!is_chip(n, size))
+		return OUT_OF_RANGE;
+	if (bitmap_len != n / 4 || page_len != PAGE)
+		return WRONG_LENGTH;
+	if (kind < 1 || kind > 2 || version > 255 || number >= region.pages)
+		return OUT_OF_RANGE;
+
+	page_lay_out(&region, bitmap, kind == 1 ? PRIMARY : MIRROR, (uint8_t)version, (size_t)number, page);
+	return ANSWERED;
 }

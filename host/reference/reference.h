@@ -1,7 +1,7 @@
 /*
  * The entries of the library once more, written straight from documents 01 and 02 for the host programs to
  * compare with: the small chip's in small.c and boot.c, the large chip's in large.c and failed.c. Parameters
- * and answers are those of the entries in include/reamsickle.h.
+ * and answers are those of the entries in include/reamsickle.h, the manual, which alone has ream_table_page.
  */
 #ifndef REFERENCE_H
 #define REFERENCE_H
@@ -43,5 +43,8 @@ uint64_t ref_update_page(uint64_t n, uint64_t size, const uint8_t *image, size_t
 uint64_t ref_recovery_page(uint64_t n, uint64_t size, const uint8_t *image, size_t image_len, const uint8_t *status,
 			   size_t status_len, const uint8_t *failed, size_t failed_len, uint64_t step,
 			   uint8_t *page, size_t page_len);
+
+uint64_t ref_table_page(uint64_t n, uint64_t size, const uint8_t *bitmap, size_t bitmap_len, uint64_t kind,
+			uint64_t version, uint64_t number, uint8_t *page, size_t page_len);
 
 #endif

@@ -11,6 +11,11 @@ static bool is_update(enum asked asked)
 	return asked == UPDATE_PLAN || asked == UPDATE_PAGE;
 }
 
+static bool takes_region(enum asked asked)
+{
+	return asked != TABLE_PAGE && asked != FIRST_BITMAP;
+}
+
 static bool is_plan(enum asked asked)
 {
 	return asked == UPDATE_PLAN || asked == RECOVERY_PLAN;
@@ -21,23 +26,36 @@ static void lend(struct driver *driver, enum buffer buffer, const uint8_t *bytes
 	lent_set(&driver->lent[buffer], bytes, len, driver->turn);
 }
 
+/* The length of the wanted bitmap, or of what stands in its place. */
+static size_t wanted_len(enum asked asked, uint64_t n)
+{
+	if (asked == FIRST_BITMAP)
+		return (size_t)n;
+	return is_update(asked) || asked == TABLE_PAGE ? (size_t)n / 4 : 0;
+}
+
+static size_t out_len(enum asked asked, uint64_t n)
+{
+	if (asked == TABLE_READ || asked == FIRST_BITMAP)
+		return (size_t)n / 4;
+	return is_plan(asked) ? REAM_STEPS_SIZE : PAGE_BYTES;
+}
+
 /* Lends what a request names, with drawn bytes in the output. */
 static void lend_all(struct driver *driver, uint64_t *state, const struct request *request)
 {
 	const struct region *region = request->region;
-	const size_t out_len = is_plan(request->asked) ? REAM_STEPS_SIZE : PAGE_BYTES;
-	uint8_t out[PAGE_BYTES];
+	const bool takes = takes_region(request->asked);
+	const size_t wanted = wanted_len(request->asked, region->n);
+	uint8_t out[MOST_BITMAP];
 
 	memset(out, (int)draw_below(state, 256), sizeof(out));
 	driver->turn++;
-	lend(driver, IMAGE, region->image, region_image_len(region));
-	lend(driver, STATUS, region->status, region_status_len(region));
-	if (is_update(request->asked))
-		lend(driver, WANTED, request->wanted, (size_t)region->n / 4);
-	else
-		lend(driver, WANTED, out, 0);
+	lend(driver, IMAGE, region->image, takes ? region_image_len(region) : 0);
+	lend(driver, STATUS, region->status, takes ? region_status_len(region) : 0);
+	lend(driver, WANTED, wanted > 0 ? request->wanted : out, wanted);
 	lend(driver, FAILED, request->failures > 0 ? request->failed : out, request->failures);
-	lend(driver, OUT, out, out_len);
+	lend(driver, OUT, out, out_len(request->asked, region->n));
 }
 
 /* A length that is not the one lent. Of the failed steps none is wrong. The bytes behind a buffer are the driver's
@@ -56,6 +74,7 @@ struct told {
 	uint64_t n;
 	uint64_t size;
 	uint64_t step;
+	uint64_t version;
 };
 
 /* Puts in the flaw. */
@@ -63,6 +82,7 @@ static void spoil_arguments(struct driver *driver, uint64_t *state, const struct
 {
 	const uint64_t no_numbers[] = { 0, 4, 9, 10, 32772, UINT64_MAX };
 	const uint64_t no_sizes[] = { 0, 3, 8, told->n / 2 + 1, ((uint64_t)1 << 32) + told->size, UINT64_MAX };
+	uint8_t no_status;
 
 	switch (request->flaw) {
 	case FLAW_N:
@@ -75,8 +95,8 @@ static void spoil_arguments(struct driver *driver, uint64_t *state, const struct
 		spoil_length(driver, state, request->asked);
 		break;
 	case FLAW_STATUS:
-		lent_bytes(&driver->lent[STATUS])[draw_below(state, driver->lent[STATUS].held)] =
-			(uint8_t)(2 + draw_below(state, 254));
+		no_status = (uint8_t)(2 + draw_below(state, 254));
+		lent_bytes(&driver->lent[STATUS])[draw_below(state, driver->lent[STATUS].held)] = no_status;
 		break;
 	case NO_FLAW:
 	case FLAWS:
@@ -98,8 +118,13 @@ static uint64_t call(struct driver *driver, enum asked asked, const struct told 
 	case UPDATE_PAGE:
 		return ream_update_page(n, size, LENT(IMAGE), LENT(STATUS), LENT(WANTED), LENT(FAILED), told->step,
 					LENT(OUT));
+	case TABLE_READ:
+		return ream_table_read(n, size, LENT(IMAGE), LENT(STATUS), LENT(OUT));
+	case TABLE_PAGE:
+		return ream_table_page(n, size, LENT(WANTED), REAM_PRIMARY, told->version, told->step, LENT(OUT));
+	case FIRST_BITMAP:
+		return ream_first_bitmap(n, size, LENT(WANTED), LENT(OUT));
 	case RECOVERY_PAGE:
-	case ASKS:
 		break;
 	}
 	return ream_recovery_page(n, size, LENT(IMAGE), LENT(STATUS), LENT(FAILED), told->step, LENT(OUT));
@@ -133,7 +158,7 @@ static void check_room(struct driver *driver, uint64_t answer)
 
 uint64_t driver_ask(struct driver *driver, uint64_t *state, const struct request *request)
 {
-	struct told told = { request->region->n, request->region->size, request->step };
+	struct told told = { request->region->n, request->region->size, request->step, request->version };
 	uint64_t answer;
 
 	lend_all(driver, state, request);

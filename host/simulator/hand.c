@@ -6,6 +6,7 @@
 #include <string.h>
 
 #include "draw.h"
+#include "log.h"
 
 /* ---- what happened */
 
@@ -16,6 +17,8 @@ void note(struct history *history, const char *format, ...)
 	va_start(arguments, format);
 	vsnprintf(history->event[history->events], EVENT_LEN, format, arguments);
 	va_end(arguments);
+	if (history->logged)
+		log_line(history, history->event[history->events]);
 	history->events++;
 }
 
@@ -28,6 +31,13 @@ void require(struct history *history, bool holds, const char *rule)
 {
 	if (!holds && !history->broken)
 		history->broken = rule;
+}
+
+const char *broken(const struct history *history)
+{
+	if (history->broken)
+		return history->broken;
+	return history->driver.broken ? history->driver.broken : history->checker.broken;
 }
 
 /* ---- the plan in hand */
@@ -78,10 +88,14 @@ void end_hand(struct history *history)
 	const enum holding ended = history->hand.holding;
 
 	close_hand(history);
-	if (ended == UPDATE)
+	if (ended == UPDATE) {
 		checker_updated(&history->checker, &history->region);
-	else
-		count_judged(history, checker_recovered(&history->checker, &history->region));
+		return;
+	}
+	count_judged(history, checker_recovered(&history->checker, &history->region));
+	if (history->first)
+		count(history, history->since.recovery_failed ? FIRST_SETTLED_FAILED : FIRST_SETTLED);
+	history->first = false;
 }
 
 /* The step of a plan at which something else happens: often the first, or any; or it is left to each event. */

@@ -18,6 +18,9 @@ void count(struct history *history, enum tally_row row);
 /* A rule of the calls themselves. */
 void require(struct history *history, bool holds, const char *rule);
 
+/* The rule that was broken, or NULL. */
+const char *broken(const struct history *history);
+
 /* "update" or "recovery". */
 const char *holding_name(enum holding holding);
 

@@ -1,12 +1,13 @@
 /*
  * The simulator of power cuts and failed steps: runs histories, each with events drawn from its seed (history.h), and
- * checks demand 3 after every event.
+ * checks demand 3 after every event. Those of even seeds start before a chip's first pair of tables is made.
  *
- *	histories [seed [histories]]
+ *	histories [seed [histories]] [--log]
  *
  * With no argument it runs a fixed number of histories from a fixed seed, the same in every run; with
  * 0 histories it goes on until it is interrupted. History i of a run has the seed `seed + i`, so that it can be
- * run again alone. An interrupt (SIGINT, SIGTERM) ends any run after the history that it came in.
+ * run again alone. An interrupt (SIGINT, SIGTERM) ends any run after the history that it came in. With --log it prints
+ * a line for each event (log.h); all that it prints then is the same on every host.
  *
  * It prints how often each kind of event and outcome came. The exit status is 0 if no rule was broken and, in a
  * whole run of the fixed number or more, no kind was missing. If a rule is broken it prints the history's seed,
@@ -19,13 +20,14 @@
 #include <signal.h>
 #include <stdio.h>
 #include <stdlib.h>
+#include <string.h>
 #include <time.h>
 
 #include "history.h"
 
 enum {
 	SEED = 20240229,
-	HISTORIES = 3000,	/* the fixed number */
+	HISTORIES = 6000,	/* the fixed number */
 	PROGRESS = 10,		/* a line is printed after so many seconds */
 };
 
@@ -84,11 +86,13 @@ static bool run_all(const struct run *run)
 	time_t printed = time(NULL);
 
 	for (uint64_t i = 0; (run->histories == 0 || i < run->histories) && !interrupted; i++) {
+		if (run->history->logged)
+			printf("history %" PRIu64 "\n", run->seed + i);
 		if (!history_run(run->history, run->seed + i, run->tally)) {
 			print_broken(run, i);
 			return false;
 		}
-		if (difftime(time(NULL), printed) >= PROGRESS) {
+		if (!run->history->logged && difftime(time(NULL), printed) >= PROGRESS) {
 			print_progress(run);
 			printed = time(NULL);
 		}
@@ -122,6 +126,18 @@ static bool parse(const char *text, uint64_t *number)
 	return *text >= '0' && *text <= '9' && *end == '\0' && errno == 0;
 }
 
+/* The arguments but the first, which names the program. */
+static bool parse_all(int count, char **text, struct run *run)
+{
+	if (count > 0 && strcmp(text[count - 1], "--log") == 0) {
+		run->history->logged = true;
+		count--;
+	}
+	if (count > 2 || (count > 0 && !parse(text[0], &run->seed)))
+		return false;
+	return count < 2 || parse(text[1], &run->histories);
+}
+
 int main(int argc, char **argv)
 {
 	struct run run = {
@@ -130,10 +146,10 @@ int main(int argc, char **argv)
 	int status = EXIT_FAILURE;
 
 	take_interrupts();
-	if (argc > 3 || (argc > 1 && !parse(argv[1], &run.seed)) || (argc > 2 && !parse(argv[2], &run.histories)))
-		printf("usage: histories [seed [histories]]\n");
-	else if (!run.history || !run.tally)
+	if (!run.history || !run.tally)
 		printf("histories: no memory\n");
+	else if (!parse_all(argc - 1, argv + 1, &run))
+		printf("usage: histories [seed [histories]] [--log]\n");
 	else
 		status = report(&run);
 	free(run.history);

@@ -1,23 +1,15 @@
 /* A history: events drawn one after the other. */
 #include "history.h"
 
-#include <inttypes.h>
 #include <stdio.h>
-#include <string.h>
 
+#include "bringup.h"
 #include "draw.h"
 #include "events.h"
 #include "hand.h"
+#include "log.h"
 #include "reamsickle.h"
-#include "rig.h"
-
-/* The rule that was broken, or NULL. */
-static const char *broken(const struct history *history)
-{
-	if (history->broken)
-		return history->broken;
-	return history->driver.broken ? history->driver.broken : history->checker.broken;
-}
+#include "starts.h"
 
 /* ---- drawing */
 
@@ -99,53 +91,10 @@ static void next_event(struct history *history)
 
 /* ---- the start */
 
-static void note_start(struct history *history, const struct start *start)
-{
-	static const char *const words[FILLINGS] = {
-		[FILLED_PAIR] = "of the pair", [FILLED_BLANK] = "blank", [FILLED_SENSELESS] = "senseless",
-		[FILLED_BAD] = "bad", [FILLED_UNREADABLE] = "unreadable", [FILLED_HALF_PRIMARY] = "half a primary",
-		[FILLED_HALF_MIRROR] = "half a mirror", [FILLED_ZEROED] = "64 zeros",
-		[FILLED_ZEROED_UNREADABLE] = "64 zeros, unreadable", [FILLED_NEARLY_ZEROED] = "63 zeros, unreadable",
-	};
-	const uint64_t first = region_first(&history->region);
-	char blocks[EVENT_LEN] = "";
-
-	for (unsigned block = 0; block < start->size; block++) {
-		const size_t len = strlen(blocks);
-
-		snprintf(blocks + len, sizeof(blocks) - len, "%s%s", block == 0 ? "" : "; ",
-			 words[start->filling[block]]);
-	}
-	note(history, "start: N = %" PRIu64 ", version %u, primary in block %" PRIu64 ", mirror in %" PRIu64
-	     "; blocks from %" PRIu64 " on: %s", start->n, start->version, first + start->block[PRIMARY],
-	     first + start->block[MIRROR], first, blocks);
-}
-
-static void count_start(struct history *history, const struct start *start)
-{
-	static const enum tally_row rows[FILLINGS] = {
-		[FILLED_BLANK] = START_BLANK, [FILLED_SENSELESS] = START_SENSELESS, [FILLED_BAD] = START_BAD,
-		[FILLED_UNREADABLE] = START_UNREADABLE, [FILLED_HALF_PRIMARY] = START_HALF_PRIMARY,
-		[FILLED_HALF_MIRROR] = START_HALF_MIRROR, [FILLED_ZEROED] = START_ZEROED,
-		[FILLED_ZEROED_UNREADABLE] = START_ZEROED_UNREADABLE, [FILLED_NEARLY_ZEROED] = START_NEARLY_ZEROED,
-	};
-
-	count(history, START_SIZE + start->size - FEWEST_REGION_BLOCKS);
-	if (start->version == 0)
-		count(history, START_VERSION_0);
-	if (start->version == 254)
-		count(history, START_VERSION_254);
-	if (start->version == 255)
-		count(history, START_VERSION_255);
-	for (unsigned block = 0; block < start->size; block++)
-		if (start->filling[block] != FILLED_PAIR)
-			count(history, rows[start->filling[block]]);
-}
-
-static void begin(struct history *history, uint64_t seed, struct tally *tally)
+/* Gives false where the history ends before there is a pair. */
+static bool begin(struct history *history, uint64_t seed, struct tally *tally)
 {
 	static const unsigned wears[] = { 0, 3, 12, 40 }, calms[] = { 60, 85, 97 };
-	struct start start;
 
 	history->state = seed;
 	history->tally = tally;
@@ -155,33 +104,39 @@ static void begin(struct history *history, uint64_t seed, struct tally *tally)
 	history->given_up = 0;
 	history->broken = history->driver.broken = NULL;
 	history->driver.turn = 0;
-	do
-		rig_start(&history->state, &start, &history->region);
-	while (!checker_begin(&history->checker, &history->region));
-	note_start(history, &start);
-	count_start(history, &start);
+	history->first = seed % BARE_IN == 0;
+	if (!history->first)
+		start_with_pair(history);
+	else if (!bring_up(history))
+		return false;
 	history->wear = wears[draw_below(&history->state, 4)];
 	history->calm = calms[draw_below(&history->state, 3)];
+	return true;
 }
 
 /* ---- a whole history */
 
-bool history_run(struct history *history, uint64_t seed, struct tally *tally)
+/* Events, and at last a recovery, done to its end. */
+static void go_on(struct history *history)
 {
-	unsigned events;
+	const unsigned events = history->events + FEWEST_DRAWN + (unsigned)draw_below(&history->state, MORE_DRAWN);
 
-	begin(history, seed, tally);
-	events = 20 + (unsigned)draw_below(&history->state, MOST_EVENTS - 40);
 	while (history->events < events && !broken(history))
 		next_event(history);
-
-	/* at last a recovery, done to its end */
 	if (!broken(history))
 		plan_recovery(history);
 	while (!broken(history) && history->hand.holding != NOTHING) {
 		do_step(history);
 		checker_event(&history->checker, &history->region);
 	}
+}
+
+bool history_run(struct history *history, uint64_t seed, struct tally *tally)
+{
+	if (begin(history, seed, tally))
+		go_on(history);
+	if (history->logged)
+		log_line(history, "end");
 	tally->histories++;
 	tally->events += history->events - 1;
 	return !broken(history);

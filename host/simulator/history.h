@@ -4,6 +4,9 @@
  * steps and between them. Plans and pages are the library's (driver.h), what is left of the chip is the rig's
  * (rig.h), and after each event the checker judges (checker.h).
  *
+ * Where the seed is a multiple of BARE_IN there is no good copy at the start, and a first primary is made before all
+ * that (bringup.h).
+ *
  * A history follows from its seed alone, so it can be run again by itself.
  */
 #ifndef HISTORY_H
@@ -18,7 +21,10 @@
 #include "tally.h"
 
 enum {
-	MOST_EVENTS = 120,
+	BARE_IN = 2,
+	FEWEST_DRAWN = 19,	/* so many events are drawn once there is a copy, and fewer than .. */
+	MORE_DRAWN = 80,	/* .. so many more */
+	MOST_EVENTS = 200,	/* the room: for those, those before, and those of the recovery at last */
 	EVENT_LEN = 240,	/* the room for the text of an event */
 	MOST_FAILED = 16,	/* the room for a plan's failed steps, each of which costs a block of the region */
 	NO_FATE = 100,		/* a step that no plan has */
@@ -52,6 +58,7 @@ struct history {
 	uint64_t state;		/* of draw() */
 	unsigned wear;		/* of a hundred events within a plan in so many its next step fails; .. */
 	unsigned calm;		/* .. of a hundred others so many are its next step, done */
+	bool first;		/* no pair has been settled yet */
 	struct region region;	/* the chip */
 	struct hand hand;
 	struct since since;
@@ -59,6 +66,7 @@ struct history {
 	struct driver driver;
 	struct checker checker;
 	struct tally *tally;
+	bool logged;		/* a line is printed for each event */
 	unsigned events;
 	char event[MOST_EVENTS][EVENT_LEN];	/* what happened, in words; the start comes first */
 	const char *broken;	/* a rule of the calls themselves; the driver and the checker have their own */

@@ -32,8 +32,11 @@ static void draw_few(struct history *history, uint8_t *wanted)
 	const uint64_t n = history->region.n;
 
 	memset(wanted, 0xFF, (size_t)n / 4);
-	for (uint64_t i = n < 64 ? 1 : 1 + draw_below(&history->state, 4); i > 0; i--)
-		ream_entry_set(wanted, draw_good_block(history), (unsigned)draw_below(&history->state, 3));
+	for (uint64_t i = n < 64 ? 1 : 1 + draw_below(&history->state, 4); i > 0; i--) {
+		const unsigned entry = (unsigned)draw_below(&history->state, 3);
+
+		ream_entry_set(wanted, draw_good_block(history), entry);
+	}
 }
 
 /* One of three sorts. No change: only entries that are not good are wanted to be others. */

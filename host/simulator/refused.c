@@ -83,10 +83,12 @@ static uint64_t draw_past_end(struct history *history)
 {
 	static const uint64_t above[] = { 16, 256, (uint64_t)1 << 32, UINT64_MAX - 15 };
 	const unsigned count = history->hand.count;
+	uint64_t from;
 
 	if (draw_below(&history->state, 2) == 0)
 		return count;
-	return above[draw_below(&history->state, 4)] + draw_below(&history->state, count);
+	from = above[draw_below(&history->state, 4)];
+	return from + draw_below(&history->state, count);
 }
 
 /* A step of the plan in hand that writes no page: a number past the plan's end, an erase or a zero step. */

@@ -67,14 +67,6 @@ void do_step(struct history *history)
 
 /* ---- cut or failed */
 
-/* A step that does not run to its end: how that is called, and the rows of what it leaves. */
-struct broken_off {
-	const char *words;
-	enum tally_row erase[LEFTS], write[LEFTS], zero[LEFTS];
-	enum tally_row nearly_zeroed;		/* an erase or a write: the first page unreadable, with 63 zeros */
-	enum tally_row unreadable_zeroed;	/* a zero write: the page unreadable, with 64 zeros */
-};
-
 static const struct broken_off was_cut = {
 	.words = "cut in",
 	.erase = { [LEFT_AS_IT_WAS] = CUT_ERASE_AS_IT_WAS, [LEFT_BLANK] = CUT_ERASE_BLANK,
@@ -111,60 +103,61 @@ static bool nearly_zeroed(const struct history *history, unsigned block)
 	return region_zeros(&history->region, block) == PAGE_OOB - 1;
 }
 
-static void break_off_erase(struct history *history, const struct broken_off *how, const struct ream_step *step)
+void leave_erase(struct history *history, const struct broken_off *how, unsigned block, char words[EVENT_LEN])
 {
-	const unsigned block = region_block(history, step);
 	enum left left[MOST_PAGES];
-	char text[EVENT_LEN] = "";
 
+	words[0] = '\0';
 	checker_erase(&history->checker, &history->region, block);
 	rig_cut_erase(&history->state, &history->region, block, left);
 	for (unsigned page = 0; page < history->region.pages; page++) {
-		strcat(text, left_words[left[page]]);
+		strcat(words, left_words[left[page]]);
 		count(history, how->erase[left[page]]);
 	}
 	if (left[0] == LEFT_UNREADABLE && nearly_zeroed(history, block))
 		count(history, how->nearly_zeroed);
-	note_step(history, how->words, step, text);
 }
 
-static void break_off_write(struct history *history, const struct broken_off *how, const struct ream_step *step)
+const char *leave_write(struct history *history, const struct broken_off *how, unsigned block, unsigned page,
+			const uint8_t *image)
 {
-	const unsigned block = region_block(history, step);
 	enum left left;
 
-	checker_write(&history->checker, &history->region, block, step->page);
-	left = rig_cut_write(&history->state, &history->region, block, step->page, next_page(history));
+	checker_write(&history->checker, &history->region, block, page);
+	left = rig_cut_write(&history->state, &history->region, block, page, image);
 	count(history, how->write[left]);
-	if (left == LEFT_UNREADABLE && step->page == 0 && nearly_zeroed(history, block))
+	if (left == LEFT_UNREADABLE && page == 0 && nearly_zeroed(history, block))
 		count(history, how->nearly_zeroed);
-	note_step(history, how->words, step, left_words[left]);
+	return left_words[left];
 }
 
-static void break_off_zero(struct history *history, const struct broken_off *how, const struct ream_step *step)
+const char *leave_zero(struct history *history, const struct broken_off *how, unsigned block)
 {
-	const unsigned block = region_block(history, step);
-	enum left left;
+	const enum left left = rig_cut_zero(&history->state, &history->region, block);
 
-	checker_zero(&history->checker, block);
-	left = rig_cut_zero(&history->state, &history->region, block);
 	count(history, how->zero[left]);
 	if (left == LEFT_UNREADABLE && region_zeroed(&history->region, block))
 		count(history, how->unreadable_zeroed);
-	note_step(history, how->words, step, left_words[left]);
+	return left_words[left];
 }
 
 /* The next step of the plan in hand begins and does not run to its end. */
 static void break_off(struct history *history, const struct broken_off *how)
 {
 	const struct ream_step step = told_step(&history->hand, history->hand.next);
+	const unsigned block = region_block(history, &step);
+	char erased[EVENT_LEN];
+	const char *left = erased;
 
-	if (step.kind == REAM_ERASE)
-		break_off_erase(history, how, &step);
-	else if (step.kind == REAM_ZERO)
-		break_off_zero(history, how, &step);
-	else
-		break_off_write(history, how, &step);
+	if (step.kind == REAM_ERASE) {
+		leave_erase(history, how, block, erased);
+	} else if (step.kind == REAM_ZERO) {
+		checker_zero(&history->checker, block);
+		left = leave_zero(history, how, block);
+	} else {
+		left = leave_write(history, how, block, step.page, next_page(history));
+	}
+	note_step(history, how->words, &step, left);
 }
 
 void cut_in_step(struct history *history)

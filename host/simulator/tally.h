@@ -37,6 +37,77 @@ enum tally_row {
 	START_ZEROED_UNREADABLE,
 	START_NEARLY_ZEROED,
 
+	/* a start with no good copy: the blocks of its region, what stands in them, and how many are not readable as
+	 * bad */
+	BARE_SIZE,
+	BARE_BLANK = BARE_SIZE + SIZES,
+	BARE_SENSELESS,
+	BARE_BAD,
+	BARE_UNREADABLE,
+	BARE_HALF_PRIMARY,
+	BARE_HALF_MIRROR,
+	BARE_ZEROED,
+	BARE_ZEROED_UNREADABLE,
+	BARE_NEARLY_ZEROED,
+	BARE_STRAY,
+	BARE_NONE_LEFT,
+	BARE_ONE_LEFT,
+	BARE_MORE_LEFT,
+
+	/* attempts at a first primary, with which table, and after another attempt */
+	FIRST_ATTEMPT,
+	FIRST_FROM_MARKS,
+	FIRST_KNOWN_TABLE,
+	FIRST_SAME_TABLE,
+	FIRST_OTHER_TABLE,
+	FIRST_SAME_BLOCK,
+	FIRST_OTHER_BLOCK,
+
+	/* their steps done, power cuts and failed steps, and what these left of a page */
+	FIRST_ERASE,
+	FIRST_WRITE,
+	FIRST_ZERO_WELL,
+	FIRST_ZERO_UNREADABLE,
+	FIRST_CUT_BETWEEN,
+	FIRST_CUT_BEFORE_ZERO,
+	FIRST_CUT_ERASE_AS_IT_WAS,
+	FIRST_CUT_ERASE_BLANK,
+	FIRST_CUT_ERASE_UNREADABLE,
+	FIRST_CUT_WRITE_BLANK,
+	FIRST_CUT_WRITE_COMPLETE,
+	FIRST_CUT_WRITE_UNREADABLE,
+	FIRST_CUT_NEARLY_ZEROED,
+	FIRST_CUT_ZERO_AS_IT_WAS,
+	FIRST_CUT_ZERO_ZEROED,
+	FIRST_CUT_ZERO_UNREADABLE,
+	FIRST_CUT_ZERO_UNREADABLE_ZEROED,
+	FIRST_FAILED_ERASE_AS_IT_WAS,
+	FIRST_FAILED_ERASE_BLANK,
+	FIRST_FAILED_ERASE_UNREADABLE,
+	FIRST_FAILED_WRITE_BLANK,
+	FIRST_FAILED_WRITE_COMPLETE,
+	FIRST_FAILED_WRITE_UNREADABLE,
+	FIRST_FAILED_NEARLY_ZEROED,
+	FIRST_FAILED_ZERO_AS_IT_WAS,
+	FIRST_FAILED_ZERO_ZEROED,
+	FIRST_FAILED_ZERO_UNREADABLE,
+	FIRST_FAILED_ZERO_UNREADABLE_ZEROED,
+
+	/* what was found, and came of it: the region was read without or with a complete primary; a complete primary
+	 * was lost to a zero step, or stayed, by how its last page was written; no block is left for it or for its
+	 * mirror; or the history goes on with it, until the pair is settled */
+	FIRST_LOOK_NOTHING,
+	FIRST_LOOK_COMPLETE,
+	FIRST_COMPLETE_ZEROED,
+	FIRST_COMPLETE_DONE,
+	FIRST_COMPLETE_CUT,
+	FIRST_COMPLETE_FAILED,
+	FIRST_NO_BLOCK,
+	FIRST_NO_TARGET_SIZE,
+	FIRST_GOES_ON_SIZE = FIRST_NO_TARGET_SIZE + SIZES,
+	FIRST_SETTLED = FIRST_GOES_ON_SIZE + SIZES,
+	FIRST_SETTLED_FAILED,
+
 	/* an update is planned, with what is wanted, or is refused for the pair */
 	WANTED_FEW,
 	WANTED_ANY,
@@ -160,7 +231,8 @@ enum tally_row {
 	JUDGED_NEW_GIVEN_UP,
 	JUDGED_NEW_IN_FAILED,
 
-	/* power was cut in step i, or step i failed; of a first plan, and of one after a failed step */
+	/* power was cut in step i, or step i failed; of a first plan, of one after a failed step, and of an attempt at
+	 * a first primary */
 	CUT_IN_UPDATE,
 	CUT_IN_RECOVERY = CUT_IN_UPDATE + UPDATE_STEPS,
 	CUT_IN_UPDATE_AGAIN = CUT_IN_RECOVERY + RECOVERY_STEPS,
@@ -169,7 +241,9 @@ enum tally_row {
 	FAILED_IN_RECOVERY = FAILED_IN_UPDATE + UPDATE_STEPS,
 	FAILED_IN_UPDATE_AGAIN = FAILED_IN_RECOVERY + RECOVERY_STEPS,
 	FAILED_IN_RECOVERY_AGAIN = FAILED_IN_UPDATE_AGAIN + UPDATE_AGAIN_STEPS,
-	TALLY_ROWS = FAILED_IN_RECOVERY_AGAIN + RECOVERY_AGAIN_STEPS,
+	CUT_IN_FIRST = FAILED_IN_RECOVERY_AGAIN + RECOVERY_AGAIN_STEPS,
+	FAILED_IN_FIRST = CUT_IN_FIRST + RECOVERY_STEPS,
+	TALLY_ROWS = FAILED_IN_FIRST + RECOVERY_STEPS,
 };
 
 struct tally {

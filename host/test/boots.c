@@ -48,9 +48,10 @@ void boots_write_page(struct test *test, struct boots *boots, unsigned block, en
 {
 	static const uint8_t data[512];
 	uint8_t *spare = boots->spares[block][page];
+	const uint64_t answer = ream_spare_write(data, sizeof(data), tag, path,
+						 draw_below(&test->state, REAM_COUNT_MAX + 1), spare, SPARE_BYTES);
 
-	ream_spare_write(data, sizeof(data), tag, path, draw_below(&test->state, REAM_COUNT_MAX + 1), spare,
-			 SPARE_BYTES);
+	expect(test, ream_ok(answer), "the spare of a block's page is written");
 	draw_bytes(&test->state, spare + 8, 3);
 	draw_bytes(&test->state, spare + 13, 3);
 	spare[3] ^= (uint8_t)(draw(&test->state) & 0x20);
@@ -71,9 +72,10 @@ void boots_set_magic(struct test *test, struct boots *boots, unsigned block, enu
 	static const uint8_t data[512];
 	uint8_t *spare = boots->spares[block][page];
 	uint8_t word[SPARE_BYTES];
+	const uint64_t path = (uint64_t)magic << 18 | draw_below(&test->state, 1 << 18);
+	const uint64_t answer = ream_spare_write(data, sizeof(data), REAM_TAG_BOOT, path, 0, word, SPARE_BYTES);
 
-	ream_spare_write(data, sizeof(data), REAM_TAG_BOOT, (uint64_t)magic << 18 | draw_below(&test->state, 1 << 18),
-			 0, word, SPARE_BYTES);
+	expect(test, ream_ok(answer), "a word with any magic is made");
 	memcpy(spare + 6, word, 2);
 	memcpy(spare + 11, word + 2, 2);
 }

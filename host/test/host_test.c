@@ -30,6 +30,8 @@ static void run(struct test *test, struct scene *scene)
 	test_update(test, scene);
 	test_steps(test, scene);
 	test_failed(test, scene);
+	test_table_page(test, scene);
+	test_first_pair(test, scene);
 	test_drawn(test, scene);
 	test_header(test, scene);
 	test_arguments(test, scene);

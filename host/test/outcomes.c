@@ -264,8 +264,9 @@ static uint64_t draw_step_past(struct test *test)
 	static const uint64_t past[] = {
 		11, 12, 15, 16, 64, 256, 65536, (uint64_t)1 << 32, (uint64_t)1 << 63, UINT64_MAX - 9,
 	};
+	const uint64_t from = past[draw_below(&test->state, sizeof(past) / sizeof(past[0]))];
 
-	return past[draw_below(&test->state, sizeof(past) / sizeof(past[0]))] + draw_below(&test->state, 10);
+	return from + draw_below(&test->state, 10);
 }
 
 static void expect_no_page(struct test *test, const struct scene *scene, enum entry_index index)

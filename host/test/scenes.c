@@ -158,6 +158,7 @@ static void mark(struct test *test, struct scene *scene, unsigned block, const s
 {
 	struct region *region = &scene->region;
 	uint8_t *oob = region_oob(region, block, 0);
+	uint64_t bit;
 
 	switch (draw_below(&test->state, 3)) {
 	case 0:
@@ -168,7 +169,8 @@ static void mark(struct test *test, struct scene *scene, unsigned block, const s
 		break;
 	default:
 		region_copy(region, block, PRIMARY, cast->version[PRIMARY], scene->table[PRIMARY]);
-		oob[SIGNATURE + draw_below(&test->state, 4)] ^= (uint8_t)(1 << draw_below(&test->state, 8));
+		bit = draw_below(&test->state, 8);
+		oob[SIGNATURE + draw_below(&test->state, 4)] ^= (uint8_t)(1 << bit);
 		break;
 	}
 	oob[0] = 0;
@@ -192,8 +194,10 @@ static void mark_unreadable(struct test *test, struct scene *scene, unsigned blo
 
 	mark(test, scene, block, cast);
 	if (draw_below(&test->state, 2) == 0) {
+		const uint8_t byte = (uint8_t)(1 + draw_below(&test->state, 255));
+
 		memset(oob, 0, PAGE_OOB);
-		oob[draw_below(&test->state, PAGE_OOB)] = (uint8_t)(1 + draw_below(&test->state, 255));
+		oob[draw_below(&test->state, PAGE_OOB)] = byte;
 	}
 	*region_status(&scene->region, block, 0) = 1;
 }
@@ -242,6 +246,9 @@ void scene_rebuild(struct test *test, struct scene *scene, const struct cast *ca
 {
 	scene->failed_len = 0;
 	scene->step = 1;
+	scene->kind = REAM_PRIMARY;
+	scene->version = cast->version[PRIMARY];
+	scene->place = 0;
 	region_begin(&scene->region, cast->chip.n, cast->chip.size);
 	for (unsigned block = 0; block < cast->chip.size; block++)
 		play(test, scene, block, cast);
@@ -254,8 +261,11 @@ void scene_build(struct test *test, struct scene *scene, const struct cast *cast
 
 	drawn_table(&test->state, scene->table[PRIMARY], n);
 	memcpy(scene->table[MIRROR], scene->table[PRIMARY], len);
-	if (!cast->equal)
-		scene->table[MIRROR][draw_below(&test->state, len)] ^= (uint8_t)(1 << draw_below(&test->state, 8));
+	if (!cast->equal) {
+		const uint64_t bit = draw_below(&test->state, 8);
+
+		scene->table[MIRROR][draw_below(&test->state, len)] ^= (uint8_t)(1 << bit);
+	}
 	drawn_table(&test->state, scene->wanted, n);
 	memset(scene->marks, 0xFF, (size_t)n);
 	scene->marks[draw_below(&test->state, n)] = 0;
@@ -305,8 +315,12 @@ void scene_set_up(struct test *test, enum entry_index index, const void *inputs)
 	call_lend_named(test, "image", region->image, region_image_len(region));
 	call_lend_named(test, "status", region->status, region_status_len(region));
 	call_lend_named(test, "wanted", scene->wanted, (size_t)region->n / 4);
+	call_lend_named(test, "bitmap", scene->wanted, (size_t)region->n / 4);
 	call_lend_named(test, "failed", scene->failed, scene->failed_len);
 	call_set_named(test, "step", scene->step);
+	call_set_named(test, "kind", scene->kind);
+	call_set_named(test, "version", scene->version);
+	call_set_named(test, "place", scene->place);
 }
 
 uint64_t scene_call(struct test *test, enum entry_index index, const struct scene *scene)

@@ -82,6 +82,7 @@ struct scene {
 	uint8_t failed[MOST_FAILED];		/* the steps that failed */
 	size_t failed_len;
 	uint64_t step;				/* the step whose page is asked for */
+	uint64_t kind, version, place;		/* the page of a copy of `wanted` that is asked for without a plan */
 };
 
 /* One of the chips with so many pages to a copy, drawn. */
@@ -114,7 +115,7 @@ void scene_build(struct test *test, struct scene *scene, const struct cast *cast
 void scene_build_changing(struct test *test, struct scene *scene, const struct cast *cast);
 
 /* The region of this cast anew, from the tables as they are. No step has failed. The step is 1: of a plan with
- * steps, the first write. */
+ * steps, the first write. The page without a plan is the first of a primary of the cast's version. */
 void scene_rebuild(struct test *test, struct scene *scene, const struct cast *cast);
 
 /* Does an entry take a step's number, and give a page? */

@@ -63,10 +63,14 @@ static void expect_chip_judged(struct test *test, uint64_t n, uint64_t size, uns
 		expect_answer(test, REAM_RANGE, "what is no chip's number of blocks and size is refused first");
 }
 
-/* With the lengths that go with these numbers. All pages read well, and there is no copy. */
+/* With the lengths that go with these numbers. All pages read well, and there is no copy. A page that is asked for
+ * without a plan is a primary's first. */
 static void try_own_lengths(struct test *test, enum entry_index index, uint64_t n, uint64_t size)
 {
 	call_begin_large(test, index, n, size);
+	call_set_named(test, "kind", REAM_PRIMARY);
+	call_set_named(test, "version", 0);
+	call_set_named(test, "place", 0);
 	for (unsigned i = 0; i < entries[index].buffers; i++)
 		if (entries[index].buffer[i].direction == IN)
 			memset(test->call.bytes[i], 0, lent_held(test->call.len[i]));
@@ -251,7 +255,7 @@ static void try_region_lengths(struct test *test, struct scene *scene)
 			scene_build(test, scene, &cast);
 			scene->region.status[i] = 2;
 			scene_fail_too(scene, 255);
-			scene->step = UINT64_MAX;
+			scene->step = scene->kind = scene->version = scene->place = UINT64_MAX;
 			try_lengths(test, index, scene_set_up, scene);
 		}
 	}
@@ -341,7 +345,7 @@ static void try_ranks(struct test *test, struct scene *scene, enum entry_index i
 
 	scene->failed_len = 0;
 	for (uint64_t failed = draw_below(&test->state, 4); failed > 0; failed--)
-		scene_fail_too(scene, (uint8_t)(draw(&test->state) >> draw_below(&test->state, 64)));
+		scene_fail_too(scene, (uint8_t)draw_of_any_width(&test->state));
 	scene_set_up(test, index, scene);
 	if (wrong_chip && draw_below(&test->state, 2) == 0)
 		test->call.number[0] += 1 + draw_below(&test->state, 3);
@@ -351,7 +355,7 @@ static void try_ranks(struct test *test, struct scene *scene, enum entry_index i
 		test->call.len[wrong] -= 1;
 	if (wrong_status)
 		test->call.bytes[1][place] = 2;
-	call_set_named(test, "step", draw(&test->state) >> draw_below(&test->state, 64));
+	call_set_named(test, "step", draw_of_any_width(&test->state));
 	call_compare(test);
 	if (wrong_chip)
 		expect_answer(test, REAM_RANGE, "N and the region's size are judged first");

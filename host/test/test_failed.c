@@ -233,7 +233,8 @@ static void try_lists(struct test *test, struct scene *scene)
 		test->trying = "failed steps, copies in every two blocks";
 		for (unsigned i = 0; i < placements(chip); i++) {
 			const enum planning recovery = (enum planning)(1 + i % (PLANNINGS - 1));
-			const unsigned some = (unsigned)(draw(&test->state) & draw(&test->state)) % sets;
+			const uint64_t any = draw(&test->state);
+			const unsigned some = (unsigned)(any & draw(&test->state)) % sets;
 
 			if (left_out(test))
 				continue;

@@ -1,5 +1,5 @@
 /*
- * The header itself: its version, the sizes of buffers, entries of bitmaps, steps, boot blocks, the texts of
+ * The header itself: its version, the sizes of buffers, entries of bitmaps, steps, boot blocks, answers, the texts of
  * refusals, and the functions for pointers that may be null, for which each such pointer is a buffer of no bytes.
  */
 #include "tests.h"
@@ -117,6 +117,21 @@ static void try_boot_blocks(struct test *test)
 	       "the counts of both lists");
 	expect(test, ream_refusal(0xFEDCBA0D) == REAM_BOOT_SET && ream_detail(0xFEDCBA0D) == 0xFEDCBA &&
 	       ream_detail(0x0203) == REAM_LATE && ream_detail(0x0106) == REAM_FIRST_HALF, "the details of refusals");
+}
+
+/* Whether a call was answered, for every refusal beside every detail, or beside the numbers of an answered call. */
+static void try_answers(struct test *test)
+{
+	static const uint64_t above[] = {
+		0, 1, 2, 0xFF, 0x100, 0x1FF, 0xFFFFFF, (uint64_t)1 << 24, (uint64_t)1 << 31, (uint64_t)1 << 40,
+		(uint64_t)1 << 55, ((uint64_t)1 << 56) - 1,
+	};
+
+	test->trying = "the header's answers";
+	for (unsigned i = 0; i < sizeof(above) / sizeof(above[0]); i++)
+		for (unsigned refusal = 0; refusal < 256; refusal++)
+			expect(test, ream_ok(above[i] << 8 | refusal) == (refusal == 0),
+			       "a call was answered exactly where its refusal is 0");
 }
 
 /* Each refusal has a text of its own, and no other number has. */
@@ -355,6 +370,36 @@ static void try_null_in_asking(struct test *test, struct scene *scene)
 	expect_pages_checked(test, scene, &cast);
 }
 
+/* Of the one that gives a page of any table. */
+static void try_null_in_table_page(struct test *test, struct scene *scene)
+{
+	const uint8_t bitmap[3] = { 0x27, 0xFF, 0x1B };
+	uint8_t page[2112], before[2112], asked[2112];
+	bool refused;
+
+	test->trying = "null pointers in asking for a page of any table";
+	memset(page, 0x5A, sizeof(page));
+	memset(before, 0x5A, sizeof(before));
+	refused = ream_table_page_checked(12, 6, NULL, 3, REAM_PRIMARY, 200, 0, page, 2112) == REAM_LENGTH &&
+		  ream_table_page_checked(12, 6, bitmap, 3, REAM_PRIMARY, 200, 0, NULL, 2112) == REAM_LENGTH &&
+		  ream_table_page_checked(12, 6, NULL, 0, REAM_PRIMARY, 200, 0, NULL, 0) == REAM_LENGTH &&
+		  ream_table_page_checked(12, 6, NULL, 3, 3, 256, 1, page, 2112) == REAM_LENGTH;
+	expect(test, refused, "a null pointer is refused as a wrong length");
+	refused = ream_table_page_checked(9, 4, NULL, 0, REAM_PRIMARY, 200, 0, NULL, 0) == REAM_RANGE &&
+		  ream_table_page_checked(12, 7, NULL, 0, REAM_PRIMARY, 200, 0, NULL, 0) == REAM_RANGE;
+	expect(test, refused, "a wrong number of blocks, or size of the region, is refused before a null pointer");
+	expect(test, memcmp(page, before, sizeof(page)) == 0, "a call refused for a null pointer changes nothing");
+
+	expect(test, REAM_PRIMARY == 1 && REAM_MIRROR == 2, "the kinds of copy");
+	region_begin(&scene->region, 12, 6);
+	for (unsigned kind = 0; kind < KINDS; kind++) {
+		region_lay_out(&scene->region, 0, (enum kind)kind, 200, bitmap, asked);
+		expect(test, ream_table_page_checked(12, 6, bitmap, 3, 1 + kind, 200, 0, page, 2112) == REAM_OK &&
+		       memcmp(page, asked, sizeof(page)) == 0,
+		       "with no null pointer the checked function is the entry");
+	}
+}
+
 void test_header(struct test *test, struct scene *scene)
 {
 	try_version(test);
@@ -362,10 +407,12 @@ void test_header(struct test *test, struct scene *scene)
 	try_entries_of_bitmaps(test);
 	try_steps_of_plans(test);
 	try_boot_blocks(test);
+	try_answers(test);
 	try_texts(test);
 	try_null_in_pages(test);
 	try_null_in_boot_map(test);
 	try_null_in_regions(test, scene);
 	try_null_in_planning(test, scene);
 	try_null_in_asking(test, scene);
+	try_null_in_table_page(test, scene);
 }

@@ -273,8 +273,11 @@ static void try_many_flips(struct test *test, const struct page *page)
 
 static void try_flips(struct test *test)
 {
-	const struct page pages[] = { page_drawn(test), page_filled(test, 0x00), page_filled(test, 0xFF) };
+	struct page pages[3];
 
+	pages[0] = page_drawn(test);
+	pages[1] = page_filled(test, 0x00);
+	pages[2] = page_filled(test, 0xFF);
 	for (unsigned i = 0; i < sizeof(pages) / sizeof(pages[0]); i++) {
 		try_single_flips(test, &pages[i]);
 		try_double_flips(test, &pages[i]);

@@ -247,8 +247,11 @@ static void try_drawn_roles(struct test *test, struct scene *scene, struct chip 
 			continue;
 		for (unsigned block = 0; block < chip.size; block++)
 			cast.role[block] = drawn_role(test, MARKED);
-		for (unsigned k = 0; k < 3; k++)
-			cast.role[draw_below(&test->state, chip.size)] = drawn_role(test, GOOD_PRIMARY);
+		for (unsigned k = 0; k < 3; k++) {
+			const uint64_t block = draw_below(&test->state, chip.size);
+
+			cast.role[block] = drawn_role(test, GOOD_PRIMARY);
+		}
 		try_roles_set(test, scene, &cast, i % 3 == 0);
 	}
 }

@@ -137,8 +137,8 @@ static void try_paths_and_counts_to_write(struct test *test)
 	test->trying = "drawn numbers to write";
 	for (unsigned i = 0; i < 20000; i++) {
 		const uint64_t tag = i % 3 ? tags[draw_below(&test->state, TAGS)] : draw(&test->state);
-		const uint64_t path = draw(&test->state) >> draw_below(&test->state, 64);
-		const uint64_t count = draw(&test->state) >> draw_below(&test->state, 64);
+		const uint64_t path = draw_of_any_width(&test->state);
+		const uint64_t count = draw_of_any_width(&test->state);
 
 		if (left_out(test))
 			continue;

@@ -26,6 +26,8 @@ void test_sizes(struct test *test, struct scene *scene);
 void test_update(struct test *test, struct scene *scene);
 void test_steps(struct test *test, struct scene *scene);
 void test_failed(struct test *test, struct scene *scene);
+void test_table_page(struct test *test, struct scene *scene);
+void test_first_pair(struct test *test, struct scene *scene);
 void test_drawn(struct test *test, struct scene *scene);
 
 /* Both. */

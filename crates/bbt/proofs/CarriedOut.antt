@@ -22,14 +22,14 @@ use Rattle.bbt.specs.Lent.{callLent}
 use Rattle.bbt.specs.Pages.{View}
 use Rattle.bbt.specs.Plans.{Step, erase, write, zeros, Job, idle, single, double, Plan, fresh, writes, copySteps, jobSteps, zeroFirst, stepsOf, stepAt, Answer, refuse, plan, Reading, reading, holds, target, Call, for-update, planByRules}
 use Rattle.bbt.specs.Regions.{Region, view}
-use Rattle.bbt.proofs.Failing.{Turn, first-copy, last-copy, Doing, doing-first, doing-second, doing-only, jobAt, failures-more, Held, held-turn}
+use Rattle.bbt.proofs.Failing.{Turn, first-copy, last-copy, Doing, doing-second, doing-only, jobAt, failures-more, Held, held-turn}
 use Rattle.bbt.proofs.Forms.{Sole, sole-clear, sole-in, sole-fit, sole-length, sole-apart}
-use Rattle.bbt.proofs.LeftPages.{Judged, judge, Twin, primary-kind, mirror-kind}
+use Rattle.bbt.proofs.LeftPages.{Judged, judge, primary-kind, mirror-kind}
 use Rattle.bbt.proofs.Numbering.{Tracked, track-first, track-next, track-numbered}
 use Rattle.bbt.proofs.Placing.{did, broke, Placing, place-start, place-fill, place-retire}
 use Rattle.bbt.proofs.Planning.{inForce, plan-is, Asked, Update, no-news, news, updates, settled-reading, reading-settled, plan-asked, Ready, nothing-to-do, one-to-place, both-to-place, plan-ready}
 use Rattle.bbt.proofs.Searches.{no-confusion}
-use Rattle.bbt.proofs.Working.{Role, first-primary, last-primary, last-mirror, kinds, last-role, restOf, Work, Worked, still, finished, work-first, work-done, work-failed}
+use Rattle.bbt.proofs.Working.{Role, first-primary, last-primary, last-mirror, last-role, restOf, Work, Worked, still, finished, work-first, work-done, work-failed}
 
 -- ---- the number of steps
 length-writes : (n p b : ℕ) (k : Kind) (t : Table) (rest : List Step) → length (writes n p b k t rest) ≡ n + length rest

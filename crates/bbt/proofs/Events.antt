@@ -25,11 +25,10 @@ use Rattle.bbt.specs.declared.Kind.{Kind}
 use Rattle.bbt.specs.declared.Kind.the-variants.{Primary, Mirror}
 use Rattle.bbt.specs.Copies.{Table, good, table}
 use Rattle.bbt.specs.Histories.{OthersKept, Last, one-table, pending, closed, asPlanned, NewPrimary, Closes, as-one, as-closed, was-complete, was-not, AfterStep, Snapshot, snapshot, withFailed, Hand, empty, holding, World, world, answer, asked, Event, plan-refused, update-planned, recovery-planned, step-done, step-cut, cut-between, step-failed, step-given-up, no-step-left, no-plan, History, start, next}
-use Rattle.bbt.specs.Lent.{callLent}
 use Rattle.bbt.specs.Plans.{Step, Job, single, Plan, fresh, jobSteps, stepsOf, copySteps, plan, updated, recovery, Call, for-update, for-recovery, planByRules}
 use Rattle.bbt.specs.PowerCuts.{NotGoodKept, Start, settled-at}
 use Rattle.bbt.specs.Regions.{Region, view}
-use Rattle.bbt.proofs.Failing.{first-copy, last-copy, jobAt, Held, held-turn}
+use Rattle.bbt.proofs.Failing.{first-copy, last-copy, jobAt, held-turn}
 use Rattle.bbt.proofs.Forms.{Sole, Missing, Sound, twins, ahead, one-left, Whole, Frame, sole-same, sole-clear, sole-in, sole-fit, sole-length, sole-apart, sound-same, whole-copy}
 use Rattle.bbt.proofs.LeftPages.{Judged, Twin, primary-kind, mirror-kind}
 use Rattle.bbt.proofs.Numbering.{InHand, HandOf, Tracked, tracked, track-numbered}
@@ -37,7 +36,7 @@ use Rattle.bbt.proofs.Outcomes.{complete-kept}
 use Rattle.bbt.proofs.Placing.{Did, did, Broke, broke, Placing, place-start, place-fill, place-retire, Remains, unchanged, lacks, whole}
 use Rattle.bbt.proofs.Planning.{News, Update, no-news, news, updates, next-differs, sole-table, reading-settled, plan-first, Asked, plan-asked, Ready, nothing-to-do, one-to-place, both-to-place, plan-ready, Of, recovers, sound-settled}
 use Rattle.bbt.proofs.Searches.{nowhere-find, only-find, Unique}
-use Rattle.bbt.proofs.Working.{Role, first-primary, last-mirror, kinds, last-role, restOf, Work, Worked, still, finished, work-first, work-frame, work-done, work-cut, work-failed, work-twin}
+use Rattle.bbt.proofs.Working.{first-primary, last-mirror, kinds, last-role, restOf, Work, Worked, still, finished, work-first, work-frame, work-done, work-cut, work-failed, work-twin}
 
 -- ---- the invariant
 -- the table that the last update left, once its plan is out of hand

@@ -2,17 +2,16 @@
 -- retired and its copy goes to a target, or there is none (11); zeros that fail are 12. The blocks that are neither the two copies' nor failed
 -- have not been touched since the snapshot, so the target is fit now as it was then.
 -- Assumes nothing.
-use mathlib.Core.Bool.{Bool, true, false, true≢false}
+use mathlib.Core.Bool.{true, false, true≢false}
 use mathlib.Core.List.{List, [], _∷_, _++_}
 use mathlib.Core.Logic.{_⊎_, inl, inr, _≢_}
 use mathlib.Core.Option.{Option, none, some}
 use mathlib.Core.Path.{_≡_, refl, sym, ap, _∙_}
 use Prim.Native.Nat.{ℕ, zero, suc, _<_}
 use borrow.Author.Tests.{eq-eqb, ne-eqb}
-use lib.Dec.{eqb}
 use Rattle.chip.specs.Large.{pagesOf}
 use Rattle.chip.specs.declared.LargeChip.{LargeChip}
-use Rattle.chip.specs.declared.Refusal.the-variants.{Length, NoTarget, ZeroFailed}
+use Rattle.chip.specs.declared.Refusal.the-variants.{NoTarget, ZeroFailed}
 use Rattle.bbt.specs.declared.Kind.{Kind}
 use Rattle.bbt.specs.declared.Kind.the-variants.{Primary, Mirror}
 use Rattle.bbt.specs.Copies.{Table, readsBad}

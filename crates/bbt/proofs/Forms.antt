@@ -104,7 +104,7 @@ module _ {chip : LargeChip} (ok : Judged chip) where
         at d l off (yes e) u = rw e (nb (omega arith))
         at d l off (no n) u = frame-good k d l n ∙ u .no-other d l off
 
-    clear-frame : {k : Kind} → Clear r k b → (d : ℕ) → d < chip .region → d ≢ b → good (pagesOf chip) (view s) k d ≡ false
+    pub clear-frame : {k : Kind} → Clear r k b → (d : ℕ) → d < chip .region → d ≢ b → good (pagesOf chip) (view s) k d ≡ false
     clear-frame {k} h d l n = frame-good k d l n ∙ h .elsewhere d l n
 
     pub missing-kept : {k : Kind} → Clear r k b → (b < chip .region → good (pagesOf chip) (view s) k b ≡ false) → Missing s k

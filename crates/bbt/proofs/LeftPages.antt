@@ -1,13 +1,13 @@
 -- What is seen of a page that was left blank, complete, unreadable, with zeros or as it was; and what is seen of a good copy: its table has N/4 bytes
 -- and its version is a byte. Of the laws under demand 3 these alone look at bytes.
 -- Assumes nothing.
-use mathlib.Core.Bool.{Bool, true, false, _&&_, _||_, cond, true≢false, false≢true}
+use mathlib.Core.Bool.{Bool, true, false, _&&_, _||_, cond, false≢true}
 use mathlib.Core.List.{List, _++_}
 use mathlib.Core.Logic.{_⊎_, inl, inr, _≢_}
 use mathlib.Core.Path.{_≡_, refl, sym, ap, _∙_, subst}
 use Prim.Native.Nat.{ℕ, zero, suc, _+_, _*_, _-_, _%_, _<_, _≤_, min}
 use native.Mathlib.Omega.{arith}
-use borrow.Author.Tests.{eqb-true, eq-eqb, ne-eqb}
+use borrow.Author.Tests.{eq-eqb, ne-eqb}
 use lib.Dec.{eqb, lit<}
 use lib.ListN.{length, take, drop, getD, replicate, length-append, length-take, length-drop, length-replicate}
 use lib.Seq.{take-take, take-at, drop-append-add, getD-drop}

@@ -92,7 +92,7 @@ module _ {chip : LargeChip} (ok : Judged chip) where
       }
 
   -- pages of a block, all as they were: nothing changed
-  all-same : {r s : Region chip} {b : ℕ} → Frame r s b → ((p : ℕ) → p < pagesOf chip → Kept r s b p) → Frame r s (chip .region)
+  pub all-same : {r s : Region chip} {b : ℕ} → Frame r s b → ((p : ℕ) → p < pagesOf chip → Kept r s b p) → Frame r s (chip .region)
   all-same {r} {s} {b} f h a p ha hp _ = go (ℕ-discrete a b)
     where
       go : Dec (a ≡ b) → Kept r s a p
@@ -101,7 +101,7 @@ module _ {chip : LargeChip} (ok : Judged chip) where
 
   -- an erase -----------------------------------------------------------------------------------------------------------------
   -- block b still does not read as bad
-  erase-fit : {r s : Region chip} {b : ℕ} → Broke (erase b) r s → readsBad (view r) b ≡ false → readsBad (view s) b ≡ false
+  pub erase-fit : {r s : Region chip} {b : ℕ} → Broke (erase b) r s → readsBad (view r) b ≡ false → readsBad (view s) b ≡ false
   erase-fit {r} {s} {b} d e = go (d 0 (ok .some-page))
     where
       go : Kept r s b 0 ⊎ (Blank s b 0 ⊎ Lost s b 0) → readsBad (view s) b ≡ false

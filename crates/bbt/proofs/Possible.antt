@@ -98,7 +98,7 @@ module _ (d : List ℕ) (free : Bytes 2048 d) where
 
 -- ---- a page left as a step allows
 -- what it takes: bytes to put there
-abbrev Takes : Imaged → Left → Type 0
+abbrev pub Takes : Imaged → Left → Type 0
 Takes x as-it-was = Unit {0}
 Takes x left-blank = Unit {0}
 Takes x (left-complete oob) = Bytes 14 oob × (l : List ℕ) × Bytes 2112 l × (x ≡ page-image l)
@@ -106,12 +106,12 @@ Takes x (left-unreadable l) = Bytes 2112 l
 Takes x (left-zeroed s d) = AnyZeroed s d
 
 -- a step has what it takes for all that it allows
-done-takes : (x : Imaged) (e : Step) (f : Left) → ImageOf e x → StepOfBytes e → DoneAllows e f → Takes x f
+pub done-takes : (x : Imaged) (e : Step) (f : Left) → ImageOf e x → StepOfBytes e → DoneAllows e f → Takes x f
 done-takes x (erase b) f im by e = rw e tt
 done-takes x (write b p k t) f im by (oob, free, e) = rw e (free, pageImage k t p, image-bytes k t p by, im)
 done-takes x (zeros b) f im by (s, d, free, e) = rw e free
 
-cut-takes : (x : Imaged) (e : Step) (p : ℕ) (f : Left) → ImageOf e x → StepOfBytes e → CutAllows e p f → Takes x f
+pub cut-takes : (x : Imaged) (e : Step) (p : ℕ) (f : Left) → ImageOf e x → StepOfBytes e → CutAllows e p f → Takes x f
 cut-takes x (erase b) p as-it-was im by h = tt
 cut-takes x (erase b) p left-blank im by h = tt
 cut-takes x (erase b) p (left-complete oob) im by h = absurd h
@@ -255,12 +255,12 @@ module _ {chip : LargeChip} where
 
   -- ---- the next step
   -- its pages can be left as it allows
-  record Stepped (x : Imaged) (left : ℕ → Left) (e : Step) (r : Region chip) : Type 0 where
-    s : Region chip
-    is-left : AreLeft x left e r s
-    others : OthersKept e r s
+  pub record Stepped (x : Imaged) (left : ℕ → Left) (e : Step) (r : Region chip) : Type 0 where
+    pub s : Region chip
+    pub is-left : AreLeft x left e r s
+    pub others : OthersKept e r s
 
-  leave-step : (x : Imaged) (left : ℕ → Left) (e : Step) (r : Region chip) → Judged chip → Harmless r e → ((p : ℕ) → Takes x (left p)) → Stepped x left e r
+  pub leave-step : (x : Imaged) (left : ℕ → Left) (e : Step) (r : Region chip) → Judged chip → Harmless r e → ((p : ℕ) → Takes x (left p)) → Stepped x left e r
   leave-step x left (erase b) r ok h can =
       let a = leave-pages x left can r b (omega (arith, h .0 .1, ok .within)) (pagesOf chip) (omega arith) in
       record { s = a .s; is-left = a .is-left; others = a .others }
@@ -272,7 +272,7 @@ module _ {chip : LargeChip} where
       record { s = a .s; is-left = a .is-left; others = a .others }
 
   -- and so left, they are what a step leaves, done, cut or failed
-  left-done : (x : Imaged) (left : ℕ → Left) (e : Step) (r s : Region chip) → ((p : ℕ) → DoneAllows e (left p)) → AreLeft x left e r s → Done x e s
+  pub left-done : (x : Imaged) (left : ℕ → Left) (e : Step) (r s : Region chip) → ((p : ℕ) → DoneAllows e (left p)) → AreLeft x left e r s → Done x e s
   left-done x left (erase b) r s ok h = λ p l. rw (ok p) at (h p l)
   left-done x left (write b p k t) r s ok h = go (left p) (ok p) h
     where
@@ -286,7 +286,7 @@ module _ {chip : LargeChip} where
   left-lost : {s : Region chip} {b p : ℕ} {l : List ℕ} → AnyLost p l → Unreadable s b p → bytesAt s b p ≡ l → Lost s b p
   left-lost ok w e = record { fails = w .fails; shows = λ z. subst (λ (l : List ℕ). NotZeroed l) (sym e) (ok .1 z) }
 
-  left-cut : (x : Imaged) (left : ℕ → Left) (e : Step) (r s : Region chip) → ((p : ℕ) → CutAllows e p (left p)) → AreLeft x left e r s → Cut x e r s
+  pub left-cut : (x : Imaged) (left : ℕ → Left) (e : Step) (r s : Region chip) → ((p : ℕ) → CutAllows e p (left p)) → AreLeft x left e r s → Cut x e r s
   left-cut x left (erase b) r s ok h = λ p l. go p (left p) (ok p) (h p l)
     where
       go : (p : ℕ) (f : Left) → CutAllows (erase b) p f → IsLeft x f r s b p → Kept r s b p ⊎ (Blank s b p ⊎ Lost s b p)

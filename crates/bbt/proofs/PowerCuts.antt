@@ -42,7 +42,7 @@ module _ {chip : LargeChip} (ok : Judged chip) where
   settles (renewing x) = tt
   settles (copying x) = tt
 
-  in-region : (b : ℕ) → b < chip .region → InRegion chip (chipBlock chip b)
+  pub in-region : (b : ℕ) → b < chip .region → InRegion chip (chipBlock chip b)
   in-region b h = (omega arith, omega (arith, ok .within))
 
   place-harmless : {r : Region chip} {k j : Kind} {b g : ℕ} {x c : Table} {rest es : List Step} {e : Step} → Placing r k j b g x c rest (e ∷ es) → Harmless r e
@@ -65,7 +65,7 @@ module _ {chip : LargeChip} (ok : Judged chip) where
   next-step t (copying {es = []} x) = tt
   next-step {l = l} t (copying {es = e ∷ es} x) = work-next l t (x .work)
 
-  promise : {w : World chip} {f : Table} → HandOf w → Inv w f → Promise w
+  pub promise : {w : World chip} {f : Table} → HandOf w → Inv w f → Promise w
   promise t (inv {r = r} m) =
       let s = mode-sound ok m in
       let q = recovers ok (s .1) in
@@ -75,7 +75,7 @@ module _ {chip : LargeChip} (ok : Judged chip) where
         recovers = record { not-refused = (fresh (q .0), recovery-planned-is ok r (fresh (q .0)) (q .1)); no-merge = no-merge ok (s .1) };
       }
 
-  holds-settled : {w : World chip} {f : Table} (t : Table) → Inv w f → Settled (regionOf w) t → t ≡ f
+  pub holds-settled : {w : World chip} {f : Table} (t : Table) → Inv w f → Settled (regionOf w) t → t ≡ f
   holds-settled t (inv {r = r} m) (p, q, e) =
       let h = reading-settled r p q t e in
       mode-settled ok m (h .0) (h .1)

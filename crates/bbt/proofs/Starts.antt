@@ -28,7 +28,7 @@ use Rattle.bbt.proofs.Putting.{put-page}
 use Rattle.bbt.proofs.Searches.{below-suc, find-none}
 
 -- ---- a region whose pages are all unreadable
-abbrev none-read : (chip : LargeChip) → Region chip
+abbrev pub none-read : (chip : LargeChip) → Region chip
 none-read chip = record {
   image = replicate (regionBytes chip) 0;
   status = replicate (regionPages chip) 1;
@@ -44,7 +44,7 @@ none-reads chip b p hb hp =
     record { fails = getD-replicate (regionPages chip) (b * pagesOf chip + p) 1 0 (omega arith) }
 
 module _ {chip : LargeChip} (ok : Judged chip) where
-  none-missing : {k j : Kind} → Twin k j → Missing (none-read chip) k
+  pub none-missing : {k j : Kind} → Twin k j → Missing (none-read chip) k
   none-missing {k} {j} o =
       record {
         not-found = find-none (chip .region) (good (pagesOf chip) (view (none-read chip)) k)

@@ -20,7 +20,7 @@ use Rattle.bbt.specs.declared.Retired.the-variants.{Nothing, Block}
 use Rattle.bbt.specs.declared.Shape.{Shape}
 use Rattle.bbt.specs.declared.Shape.the-variants.{Empty, One, Both}
 use Rattle.bbt.specs.declared.Step.{Step}
-use Rattle.bbt.specs.declared.Step.the-variants.{Erase, Write, Zero, Past}
+use Rattle.bbt.specs.declared.Step.the-variants.{Erase, Write, Past}
 use Rattle.bbt.specs.Copies.{Table}
 use Rattle.bbt.specs.Plans.{Step as RuleStep, Job, idle, single, double, writes, copySteps, jobSteps, zeroFirst}
 use Rattle.bbt.specs.Told.{chipBlock, toldShape, toldRetired, toldStep, toldWrites, toldCopy, stepsBy, retiredFirst, TellsSteps, copyStep, nthStep}

@@ -13,9 +13,9 @@ use Rattle.bbt.specs.declared.Kind.the-variants.{Primary, Mirror}
 use Rattle.bbt.specs.Copies.{Table, readsBad}
 use Rattle.bbt.specs.Histories.{OthersKept, Snapshot, snapshot, withFailed, answer}
 use Rattle.bbt.specs.Lent.{callLent}
-use Rattle.bbt.specs.Plans.{Step, zeros, fresh, Plan, copySteps, jobSteps, zeroFirst, stepsOf, plan, Call, planByRules}
+use Rattle.bbt.specs.Plans.{Step, zeros, fresh, Plan, copySteps, jobSteps, stepsOf, plan, Call, planByRules}
 use Rattle.bbt.specs.Regions.{Region, view}
-use Rattle.bbt.proofs.Failing.{Turn, first-copy, last-copy, Doing, doing-first, doing-only, jobAt, Held, held-first, held-next, At, erase-at, write-at, Anew, anew, anew-apart, anew-off, anew-fit, anew-held, zeros-no-plan}
+use Rattle.bbt.proofs.Failing.{Turn, first-copy, last-copy, Doing, doing-first, doing-only, jobAt, Held, held-first, held-next, At, erase-at, write-at, anew, anew-apart, anew-off, anew-fit, anew-held, zeros-no-plan}
 use Rattle.bbt.proofs.Forms.{Sole, Clear, Lacks, Whole, Frame, missing-clear}
 use Rattle.bbt.proofs.LeftPages.{Judged, Twin, primary-kind, mirror-kind}
 use Rattle.bbt.proofs.Numbering.{Tracked}

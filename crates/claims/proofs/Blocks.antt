@@ -3,7 +3,7 @@
 use mathlib.Core.Bool.{Bool, true, false, cond, _&&_}
 use mathlib.Core.List.{List, [], _∷_, map}
 use mathlib.Core.Option.{Option, none, some}
-use mathlib.Core.Path.{_≡_, refl, ap, subst, sym}
+use mathlib.Core.Path.{_≡_, refl, subst, sym}
 use Prim.Native.Nat.{ℕ, zero, suc, _<_, _≤_}
 use native.Mathlib.Omega.{arith}
 use lib.Dec.{eqb}
@@ -20,7 +20,7 @@ use Rattle.bbt.specs.Pages.{View, seen}
 use Rattle.bbt.specs.Pairs.{same, Case, no-pair, alone, settled, merging, differing, pairCase}
 use Rattle.bbt.specs.Plans.{Step, erase, write, zeros, Job, idle, single, double, Plan, fresh, writes, copySteps, jobSteps, zeroFirst, stepsOf, stepAt, Answer, refuse, plan, refused, readCase, reading, updated, updateFrom, update, target, otherKind, recoverTo, recoverNewer, recoverCase, recovery, Call, for-update, for-recovery, planByRules}
 use Rattle.bbt.specs.PowerCuts.{InRegion}
-use Rattle.bbt.specs.Told.{chipBlock, toldAnswer, toldPlan, toldStep, toldSteps, nthStep}
+use Rattle.bbt.specs.Told.{chipBlock, toldAnswer, toldStep, nthStep}
 use Rattle.bbt.specs.declared.Kind.{Kind}
 use Rattle.bbt.specs.declared.Kind.the-variants.{Mirror}
 use Rattle.bbt.specs.declared.PlanAnswer.the-variants.{Refused as NotPlanned}

@@ -15,7 +15,7 @@ use Rattle.bbt.proofs.PowerCuts.{demand3}
 use Rattle.bbt.proofs.Raw.{chip-valid}
 use Rattle.bbt.proofs.ToldSteps.{tells-steps}
 use Rattle.bbt.specs.Copies.{Table}
-use Rattle.bbt.specs.Histories.{Touches, Done, Cut, Written, OthersKept, Last, one-table, pending, asPlanned, Closes, AfterStep, Snapshot, snapshot, withFailed, answer, asked, Hand, empty, holding, World, world, plan-refused, update-planned, recovery-planned, step-done, step-cut, cut-between, step-failed, step-given-up, History, start, next}
+use Rattle.bbt.specs.Histories.{Touches, Done, Cut, Written, OthersKept, Last, one-table, asPlanned, Closes, AfterStep, Snapshot, snapshot, withFailed, answer, asked, Hand, empty, holding, World, world, plan-refused, update-planned, recovery-planned, step-done, step-cut, cut-between, step-failed, step-given-up, History, start, next}
 use Rattle.bbt.specs.Images.{Imaged, page-image, pageImage}
 use Rattle.bbt.specs.Plans.{Step, erase, write, zeros, Job, idle, single, double, Plan, fresh, jobSteps, stepsOf, stepAt, writes, copySteps, Answer, refuse, plan, updated, Call, for-update, for-recovery, reading, holds}
 use Rattle.bbt.specs.PowerCuts.{NotGoodKept, ImageOf, IfItFails, Retires as RetiresPlan, Start, settled-at, Settled, Harmless, Promise, SafeUnderCuts}

@@ -21,8 +21,8 @@ use Rattle.chip.specs.declared.Refusal.{Refusal}
 use Rattle.plan.specs.PageImages.{imageAfterBy}
 use Rattle.claims.specs.Driver.{stepsIn, driverStep, StepTouches, planTold, stepsTold, pageTold, tableTold, StepDone, StepCut, RestKept, DriverHand, nothing, doing, DriverWorld, at, asTold, StepsLeft, refused as was-refused, update as was-updated, recovery as was-recovered, done as was-done, cut as was-cut, fail as was-failed, give-up as was-given-up, cut-between as was-cut-between, DriverHistory, start as at-start, next as and-then}
 use Rattle.claims.specs.DriverCuts.{DriverStart, from-settled, SameHand, NothingLeftOutInC}
-use Rattle.claims.proofs.DriverCuts.{Follows, neither, both, place, Reached, joined, Next, next-is, planned-both, as-made}
-use Rattle.claims.proofs.Found.{seenStep, refused-told, plan-answered, count-told, filled, page-filled, read-answered, table-told}
+use Rattle.claims.proofs.DriverCuts.{Follows, neither, both, place, Reached, joined, next-is, planned-both, as-made}
+use Rattle.claims.proofs.Found.{seenStep, refused-told, plan-answered, count-told, page-filled, read-answered, table-told}
 
 -- ---- a step, as a driver has it
 touched : (chip : LargeChip) (e : Step) (b p : ℕ) → Touches e b p → StepTouches chip (seenStep chip e) b p

@@ -8,3 +8,4 @@ pub mod DriverReach
 pub mod BridgeToC
 pub mod Sizes
 pub mod BootMap
+pub mod FirstPair

@@ -7,3 +7,4 @@ pub mod Found
 pub mod DriverCuts
 pub mod Sizes
 pub mod BootMap
+pub mod FirstPair

@@ -4,7 +4,7 @@ use mathlib.Core.Bool.{cond, _&&_}
 use mathlib.Core.List.{List}
 use Prim.Native.Nat.{ℕ}
 use lib.Dec.{eqb, leb}
-use lib.ListN.{length}
+use lib.ListN.{length, take}
 use Rattle.bbt.specs.Images.{chunk, Imaged, no-image, page-image, partImage}
 use Rattle.bbt.specs.Lent.{onChip, imaged}
 use Rattle.bbt.specs.Plans.{Call}
@@ -26,6 +26,10 @@ use Rattle.region.specs.declared.LentCase.the-variants.{Refused as NoCase}
 -- a page of 2,112 bytes after the image of a part of at most 2,048 bytes was put into it; of other lengths, nothing is
 unfoldable pub imageInto : Kind → ℕ → List ℕ → List ℕ → List ℕ
 imageInto k v part page = cond (eqb (length page) 2112 && leb (length part) 2048) (partImage k v part) page
+
+-- the same, where the part is the page's own first n bytes
+unfoldable pub finishInto : Kind → ℕ → ℕ → List ℕ → List ℕ
+finishInto k v n page = cond (eqb (length page) 2112 && leb n 2048) (partImage k v (take n page)) page
 
 -- the image of a told step, where pages of this version and bitmap are written
 abbrev pub stepImage : ℕ → List ℕ → Step → Imaged

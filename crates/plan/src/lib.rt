@@ -12,7 +12,7 @@ ghost use Rattle.bbt.specs.Told.{toldAnswer};
 ghost use Rattle.bitmap.specs.Made.{newEqualsOld};
 ghost use Rattle.chip.specs.Large.{bitmapBytes, pagesOf};
 ghost use Rattle.plan.specs.Answers.{planAnswer};
-ghost use Rattle.plan.specs.PageImages.{imageInto, imageAnswerBy, imageAfterBy, toldImage, pageCase, imageAnswer, imageAfter};
+ghost use Rattle.plan.specs.PageImages.{imageInto, finishInto, imageAnswerBy, imageAfterBy, toldImage, pageCase, imageAnswer, imageAfter};
 ghost use Rattle.plan.specs.Works.{updateWork, missingWork, newerWork, recoveryWork, workAnswer, workBitmap, Sourced};
 ghost use Rattle.retire.specs.Retiring.{Lends};
 use bbt::Kind;
@@ -128,7 +128,7 @@ fn plan_on(chip: LargeChip, version: u8, shape: Shape) -> PlanAnswer
 }
 
 // Page p's bytes of a lent bitmap.
-fn chunk_of(bitmap: &[u8], p: u8) -> &[u8]
+pub fn chunk_of(bitmap: &[u8], p: u8) -> &[u8]
     ensures { λ r. ⌜ now r ≡ chunk p (now (bitmap .entry)) ⌝ }
 {
     let n = bitmap.len();
@@ -260,7 +260,7 @@ pub fn recovery_plan(n: u64, size: u64, image: &[u8], status: &[u8], failed: &[u
     }
 }
 
-// Fills a page with FF, as an erase leaves it.
+// Fills a page, or a part of one, with FF, as an erase leaves it.
 fn blank(page: &mut [u8])
     ensures { λ _. ⌜ now (page .exit) ≡ replicate (length (now (page .entry))) 255 ⌝ }
 {
@@ -269,6 +269,26 @@ fn blank(page: &mut [u8])
         page[i] = 0xFF;
         i += 1;
     }
+}
+
+// Finishes a page image whose first n bytes are its part of a table: the rest FF, with the signature and the version. Nothing is done
+// where the page has not 2,112 bytes, or n is above 2,048.
+fn finish_page(n: usize, kind: Kind, version: u8, page: &mut [u8])
+    ensures { λ _. ⌜ now (page .exit) ≡ finishInto kind version n (now (page .entry)) ⌝ }
+{
+    if page.len() != LargeChip::PAGE_WITH_OOB {
+        return;
+    }
+    if LargeChip::PAGE < n {
+        return;
+    }
+    blank(&mut page[n..LargeChip::PAGE_WITH_OOB]);
+    let s = bits::bytes_of(kind.signature());
+    let tail = [s[0], s[1], s[2], s[3], version];
+    bits::copy(
+        &tail,
+        &mut page[LargeChip::SIGNATURE..LargeChip::VERSION + 1],
+    );
 }
 
 // The image of a page of a copy, from its part of the table, its kind and its version. Nothing is done where the page has not 2,112 bytes,
@@ -283,14 +303,8 @@ pub fn page_image(part: &[u8], kind: Kind, version: u8, page: &mut [u8])
     if LargeChip::PAGE < n {
         return;
     }
-    blank(page);
     bits::copy(part, &mut page[0..n]);
-    let s = bits::bytes_of(kind.signature());
-    let tail = [s[0], s[1], s[2], s[3], version];
-    bits::copy(
-        &tail,
-        &mut page[LargeChip::SIGNATURE..LargeChip::VERSION + 1],
-    );
+    finish_page(n, kind, version, page);
 }
 
 // The new table's bytes of page p, put first into `out`; how many there are.
@@ -358,9 +372,8 @@ fn page_by(
                 Step::Zero(_) => ImageAnswer::Refused(Refusal::Range),
                 Step::Past => ImageAnswer::Refused(Refusal::Range),
                 Step::Write(_, p, kind) => {
-                    let mut part = [0u8; LargeChip::PAGE];
-                    let n = new_part(chip, image, wanted, work, p, &mut part);
-                    page_image(&part[0..n], kind, version, page);
+                    let n = new_part(chip, image, wanted, work, p, &mut page[0..LargeChip::PAGE]);
+                    finish_page(n, kind, version, page);
                     ImageAnswer::Made
                 }
             }

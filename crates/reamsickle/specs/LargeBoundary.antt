@@ -15,6 +15,7 @@ use Rattle.bbt.specs.declared.Step.the-variants.{Erase, Write, Zero, Past}
 use Rattle.bitmap.specs.Made.{firstAnswer}
 use Rattle.bitmap.specs.declared.BitmapAnswer.{BitmapAnswer}
 use Rattle.bitmap.specs.declared.BitmapAnswer.the-variants.{Made, Refused as NotMade}
+use Rattle.bringup.specs.TablePages.{tablePageAnswer}
 use Rattle.chip.specs.Large.{chipOf}
 use Rattle.chip.specs.declared.Refusal.the-variants.{Length}
 use Rattle.plan.specs.PageImages.{imageAnswer}
@@ -89,3 +90,7 @@ imageCodeBy (NoImage r) = refusalCode r
 
 unfoldable pub imageCode : ℕ → ℕ → Call → List ℕ → List ℕ → List ℕ → ℕ → List ℕ → ℕ
 imageCode n size call image status failed i room = imageCodeBy (imageAnswer n size call image status failed i room)
+
+-- ---- ream_table_page
+unfoldable pub tablePageCode : ℕ → ℕ → List ℕ → ℕ → ℕ → ℕ → List ℕ → ℕ
+tablePageCode n size bitmap kind version p room = imageCodeBy (tablePageAnswer n size bitmap kind version p room)

@@ -8,10 +8,11 @@ ghost use Rattle.bbt.specs.Told.{stepsBy, retiredFirst, toldSteps};
 ghost use Rattle.bitmap.specs.Made.{firstAfter};
 ghost use Rattle.bits.specs.Bytes.{copied};
 ghost use Rattle.boot.specs.Answers.{listAfter};
+ghost use Rattle.bringup.specs.TablePages.{tablePageAfter};
 ghost use Rattle.reamsickle.specs.Boundary.{refusalCode, fieldBytes, halfCode, halfCodeAfter, writeCode, spareCode, spareFieldsAfter, pageCode, pageDataAfter, pageFieldsAfter, mapCode};
 ghost use Rattle.plan.specs.Answers.{planAnswer};
 ghost use Rattle.plan.specs.PageImages.{imageAfter};
-ghost use Rattle.reamsickle.specs.LargeBoundary.{firstCode, tableCode, stepBytes, stepsPut, planCodeBy, stepsPutBy, planCode, stepsAfter, roomOf, imageCodeBy, imageCode};
+ghost use Rattle.reamsickle.specs.LargeBoundary.{firstCode, tableCode, stepBytes, stepsPut, planCodeBy, stepsPutBy, planCode, stepsAfter, roomOf, imageCodeBy, imageCode, tablePageCode};
 ghost use Rattle.region.specs.Tables.{tableAfter};
 ghost use Rattle.spare.specs.Writing.{spareAfter};
 use bbt::Plan;
@@ -383,4 +384,21 @@ pub extern "C" fn ream_recovery_page(
     ensures out { λ _. ⌜ now (page .exit) ≡ imageAfter n size for-recovery (now (image .entry)) (now (status .entry)) (now (failed .entry)) step (now (page .entry)) ⌝ }
 {
     image_code(plan::recovery_page(n, size, image, status, failed, step, page))
+}
+
+// A page of a copy of any table: a bitmap, the copy's kind and version and the page's number in, 2,112 bytes out.
+#[no_mangle]
+pub extern "C" fn ream_table_page(
+    n: u64,
+    size: u64,
+    bitmap: &[u8],
+    kind: u64,
+    version: u64,
+    number: u64,
+    page: &mut [u8],
+) -> u64
+    ensures answer { λ r. ⌜ r ≡ tablePageCode n size (now (bitmap .entry)) kind version number (now (page .entry)) ⌝ }
+    ensures out { λ _. ⌜ now (page .exit) ≡ tablePageAfter n size (now (bitmap .entry)) kind version number (now (page .entry)) ⌝ }
+{
+    image_code(bringup::table_page(n, size, bitmap, kind, version, number, page))
 }

@@ -1,10 +1,11 @@
 -- `page_by` meets its contract: the told step of the plan decides, and a write's page is made from its part of the work's bitmap.
 -- Assumes nothing.
 use mathlib.Core.Path.{refl, _∙_, sym}
+use native.Mathlib.Omega.{arith}
 use borrow.Author.Needs.{needs}
 use Rattle.plan.proofs.Asking.{by-same}
 use Rattle.plan.proofs.Imaging.{refused-told, step-told}
-use Rattle.plan.proofs.Paging.{first-image}
+use Rattle.plan.proofs.Paging.{put-finished}
 use Rattle.plan.proofs.page_by.Statement.{statement}
 use Rattle.plan.proofs.page_by.Tie as tie
 
@@ -29,23 +30,20 @@ enum-told-3 c = search needs
 enum-known-p : tie.Need-enum-known-p
 enum-known-p c = search needs
 
-slice-aggregate-new-part : tie.Need-slice-aggregate-new-part
-slice-aggregate-new-part c = search needs
+sub-new-part : tie.Need-sub-new-part
+sub-new-part c = search needs
+
+part-new-part-start : tie.Need-part-new-part-start
+part-new-part-start c = search needs
+
+part-new-part-end : tie.Need-part-new-part-end
+part-new-part-end c = search needs
 
 new-part-requires : tie.Need-new-part-requires
 new-part-requires c κs = search needs
 
-sub-page-image : tie.Need-sub-page-image
-sub-page-image c = search needs
-
-part-page-image-start : tie.Need-part-page-image-start
-part-page-image-start c = search needs
-
-part-page-image-end : tie.Need-part-page-image-end
-part-page-image-end c = search needs
-
-page-image-requires : tie.Need-page-image-requires
-page-image-requires c κs = search needs
+finish-page-requires : tie.Need-finish-page-requires
+finish-page-requires c κs = search needs
 
 returns : tie.Need-returns
 returns c =
@@ -72,10 +70,10 @@ same-length c = search needs
 
 returns-5 : tie.Need-returns-5
 returns-5 c =
-    let a = c .before .before .before .before .before .before .before .before .before .before .before .before .before .before .before .before .before .before .before .args in
-    let made = c .before .before .before .before .before .before .before .new-part .ensures in
-    let put = first-image _ _ _ _ _ (a .page .now) (c .before .before .before .before .before .before .before .before .before .before .before .before .before .before .before .before .before .before .before .pre .1) (made .0) (made .1) in
-    by-same (a .page .now) (refl, c .before .before .page-image .ensures ∙ put) (step-told _ (a .step) _ (c .before .before .before .before .before .before .before .before .before .before .before .before .before .before .answer2 .given .1) _ (sym (c .before .before .before .before .before .before .before .before .before .before .p .given .1) ∙ c .before .before .before .before .before .before .before .before .before .before .before .before .step .ensures))
+    let a = c .before .before .before .before .before .before .before .before .before .before .before .before .before .before .before .before .before .before .args in
+    let made = c .before .before .before .before .before .before .new-part .ensures in
+    let put = put-finished _ _ _ 2048 (a .page .now) _ _ (c .before .before .before .before .before .before .before .before .before .before .before .before .before .before .before .before .before .before .pre .1) (made .0) (omega arith) (c .before .before .before .before .before .before .new-part .kept .1 .1 .1 .1 .1 .0) (made .1) in
+    by-same (a .page .now) (refl, c .before .before .finish-page .ensures ∙ put) (step-told _ (a .step) _ (c .before .before .before .before .before .before .before .before .before .before .before .before .before .answer2 .given .1) _ (sym (c .before .before .before .before .before .before .before .before .before .p .given .1) ∙ c .before .before .before .before .before .before .before .before .before .before .before .step .ensures))
 
 pub page-by-spec : {M : Type 1} → statement M
 page-by-spec =
@@ -88,12 +86,11 @@ page-by-spec =
     enum-told-2
     enum-told-3
     enum-known-p
-    slice-aggregate-new-part
+    sub-new-part
+    part-new-part-start
+    part-new-part-end
     new-part-requires
-    sub-page-image
-    part-page-image-start
-    part-page-image-end
-    page-image-requires
+    finish-page-requires
     returns
     returns-2
     returns-3
