@@ -51,7 +51,9 @@ module _ {chip : LargeChip} (ok : Judged chip) (s : Region chip) (k : Kind) (b :
     where
       go : (o : Option ℕ) → target chip (view s) (b ∷ []) ≡ o → Recovery s k b t
       go none e = no-target (answered ∙ rw e) (bad-elsewhere e)
-      go (some m) e = written m (answered ∙ rw e)
+      go (some m) e =
+          let f = target-is ok s (b ∷ []) m e in
+          written m (answered ∙ rw e) (record { in-region = f .below; not-bad = f .fit }) (member-apart m b [] (f .off) .0)
 
   -- ---- where it is a plan, the region holds the table
   module _ (q : Plan) (made : answer for-recovery (snapshot s) ≡ plan q) where
