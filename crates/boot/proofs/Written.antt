@@ -9,7 +9,7 @@ use borrow.Author.Tests.{eq-eqb, lt-ltb}
 use lib.ListN.{length, take, drop, length-append}
 use lib.Seq.{take-at, drop-at}
 use Rattle.chip.specs.Boot.{bootOf}
-use Rattle.spare.proofs.ReadBack.{reads-back}
+use Rattle.spare.proofs.ReadBack.{spare-reads-back}
 use Rattle.spare.specs.Claims.{Writable}
 use Rattle.spare.specs.Reading.{spareAnswer}
 use Rattle.spare.specs.Writing.{spareOf}
@@ -20,7 +20,7 @@ use Rattle.boot.specs.Counting.{pathBy, agreed, firstSpare, lastSpare, b
 
 -- a spare as written tells its path
 spare-path : (bytes : List ℕ) (p c : ℕ) → Writable bytes 0x01 p c → pathBy (spareAnswer (spareOf bytes 0x01 p c)) ≡ Path p
-spare-path bytes p c w = ap pathBy (reads-back bytes 0x01 p c w .alone)
+spare-path bytes p c w = ap pathBy (spare-reads-back bytes 0x01 p c w .alone)
 
 -- both paths agree
 path-boot : (k g : ℕ) → k < 2 ^ 24 → g ≤ 3 → agreed (Path (4 * k + g)) (Path (4 * k + g)) ≡ Counts (record { 0 = k }) (record { 0 = g })

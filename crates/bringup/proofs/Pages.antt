@@ -9,7 +9,6 @@ use native.Mathlib.Omega.{arith}
 use borrow.Author.Tests.{leb-true, ltb-true, le-leb, lt-ltb, eq-eqb, ne-eqb}
 use lib.Dec.{eqb, leb, ltb}
 use lib.ListN.{length}
-use Rattle.bits.proofs.Both.{both-left, both-right}
 use Rattle.bbt.proofs.LeftPages.{Judged, chunk-length}
 use Rattle.bbt.specs.Copies.{Table}
 use Rattle.bbt.specs.Images.{chunk, Imaged, no-image, page-image, pageImage}
@@ -17,13 +16,14 @@ use Rattle.bbt.specs.Lent.{onChip}
 use Rattle.bbt.specs.Starts.{AnyTable}
 use Rattle.bbt.specs.declared.Kind.{Kind}
 use Rattle.bbt.specs.declared.Kind.the-variants.{Primary}
+use Rattle.bits.proofs.Both.{both-left, both-right}
 use Rattle.chip.specs.Large.{chipOf, bitmapBytes, pagesOf}
 use Rattle.chip.specs.declared.ChipAnswer.the-variants.{Chip, Refused}
 use Rattle.chip.specs.declared.LargeChip.{LargeChip}
 use Rattle.chip.specs.declared.Refusal.{Refusal}
 use Rattle.chip.specs.declared.Refusal.the-variants.{Length}
-use Rattle.plan.specs.PageImages.{imageInto, imageAnswerBy, imageAfterBy}
-use Rattle.plan.specs.declared.ImageAnswer.the-variants.{Made}
+use Rattle.images.specs.Made.{imageInto, imageAnswerBy, imageAfterBy}
+use Rattle.images.specs.declared.ImageAnswer.the-variants.{Made}
 use Rattle.bringup.specs.TablePages.{kindNumbered, isCopyPage, copyImage, tablePage, lentTablePage, tablePageAnswer, tablePageAfter}
 
 -- ---- the tests of a page

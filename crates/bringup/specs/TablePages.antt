@@ -11,8 +11,8 @@ use Rattle.bbt.specs.declared.Kind.the-variants.{Primary, Mirror, Neither}
 use Rattle.chip.specs.Large.{chipOf, bitmapBytes, pagesOf}
 use Rattle.chip.specs.declared.LargeChip.{LargeChip}
 use Rattle.chip.specs.declared.Refusal.the-variants.{Length, Range}
-use Rattle.plan.specs.PageImages.{imageAnswerBy, imageAfterBy}
-use Rattle.plan.specs.declared.ImageAnswer.{ImageAnswer}
+use Rattle.images.specs.Made.{imageAnswerBy, imageAfterBy}
+use Rattle.images.specs.declared.ImageAnswer.{ImageAnswer}
 
 -- the kinds by number: 1 the primary, 2 the mirror
 unfoldable pub kindNumbered : ℕ → Kind

@@ -2,12 +2,12 @@
 ghost use mathlib.Core.Path.{_≡_};
 ghost use lib.ListN.{length};
 ghost use Rattle.bringup.specs.TablePages.{kindNumbered, isCopyPage, copyImage, tablePageAnswer, tablePageAfter};
-ghost use Rattle.plan.specs.PageImages.{imageAnswerBy, imageAfterBy};
+ghost use Rattle.images.specs.Made.{imageAnswerBy, imageAfterBy};
 use bbt::Kind;
 use chip::ChipAnswer;
 use chip::LargeChip;
 use chip::Refusal;
-use plan::ImageAnswer;
+use images::ImageAnswer;
 
 // The kinds of a copy, as numbers.
 const PRIMARY: u64 = 1;
@@ -58,8 +58,8 @@ fn copy_page(
     ensures out { λ _. ⌜ now (page .exit) ≡ imageAfterBy (copyImage chip (now (bitmap .entry)) kind version number) (now (page .entry)) ⌝ }
 {
     if is_copy_page(chip, kind, version, number) {
-        let part = plan::chunk_of(bitmap, number as u8);
-        plan::page_image(part, kind_numbered(kind), version as u8, page);
+        let part = images::chunk_of(bitmap, number as u8);
+        images::page_image(part, kind_numbered(kind), version as u8, page);
         return ImageAnswer::Made;
     }
     ImageAnswer::Refused(Refusal::Range)

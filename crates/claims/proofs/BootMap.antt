@@ -25,7 +25,8 @@ use Rattle.chip.specs.declared.BootNumber.{BootNumber}
 use Rattle.chip.specs.declared.ChipBlock.{ChipBlock}
 use Rattle.chip.specs.declared.Refusal.{Refusal}
 use Rattle.chip.specs.declared.Refusal.the-variants.{Length, Range}
-use Rattle.reamsickle.specs.Boundary.{refusalCode, mapCodeBy, mapCode}
+use Rattle.packing.specs.Packing.{refusalCode}
+use Rattle.reamsickle.specs.Boundary.{mapCodeBy, mapCode}
 use Rattle.claims.specs.BootMap.{mappedIn, erasedIn, detailIn, blockIn, Fitting, Holds, answer, Map, Unchanged, Told, range, wrong-length, out-of-order, mapping, BootMapInC}
 
 -- ---- a list

@@ -15,11 +15,12 @@ use Rattle.bbt.specs.Regions.{Region, view}
 use Rattle.bbt.specs.Told.{chipBlock, toldPlan, toldAnswer, toldSteps}
 use Rattle.chip.specs.Large.{bitmapBytes}
 use Rattle.chip.specs.declared.LargeChip.{LargeChip}
-use Rattle.plan.specs.PageImages.{imageAnswerBy, imageAfterBy}
+use Rattle.images.specs.Made.{imageAnswerBy, imageAfterBy}
+use Rattle.packing.specs.Packing.{stepsPut}
+use Rattle.reamsickle.specs.LargeBoundary.{tableCodeBy, planCodeBy, stepsPutBy, imageCodeBy}
 use Rattle.region.proofs.Bridge.{read-bridged}
 use Rattle.region.specs.Tables.{toldReading, roomBy}
 use Rattle.region.specs.declared.TableAnswer.{TableAnswer}
-use Rattle.reamsickle.specs.LargeBoundary.{tableCodeBy, stepsPut, planCodeBy, stepsPutBy, imageCodeBy}
 use Rattle.claims.specs.Blocks.{TableInRegion}
 use Rattle.claims.specs.Driver.{versionIn, primaryIn, mirrorIn, stepByte, readTold}
 use Rattle.claims.specs.Found.{PlanFound, FindsPlans, TableFound, FindsTables, BridgeToC}

@@ -18,7 +18,7 @@ use Rattle.bbt.specs.Regions.{Region, view, Blank, Complete, Zeroed, Unreadable
 use Rattle.chip.specs.Large.{bitmapBytes, pagesOf}
 use Rattle.chip.specs.declared.LargeChip.{LargeChip}
 use Rattle.chip.specs.declared.Refusal.{Refusal}
-use Rattle.plan.specs.PageImages.{imageAfterBy}
+use Rattle.images.specs.Made.{imageAfterBy}
 use Rattle.claims.specs.Driver.{stepsIn, driverStep, StepTouches, planTold, stepsTold, pageTold, tableTold, StepDone, StepCut, RestKept, DriverHand, nothing, doing, DriverWorld, at, asTold, StepsLeft, refused as was-refused, update as was-updated, recovery as was-recovered, done as was-done, cut as was-cut, fail as was-failed, give-up as was-given-up, cut-between as was-cut-between, DriverHistory, start as at-start, next as and-then}
 use Rattle.claims.specs.DriverCuts.{DriverStart, from-settled, SameHand, NothingLeftOutInC}
 use Rattle.claims.proofs.DriverCuts.{Follows, neither, both, place, Reached, joined, next-is, planned-both, as-made}

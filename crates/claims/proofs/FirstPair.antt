@@ -22,8 +22,8 @@ use Rattle.chip.specs.Large.{bitmapBytes, pagesOf}
 use Rattle.chip.specs.declared.LargeChip.{LargeChip}
 use Rattle.chip.specs.declared.Refusal.{Refusal}
 use Rattle.chip.specs.declared.Refusal.the-variants.{Length, Range, BadBlock, Tag, Magic, Unrepairable, NoCopy, SeveralCopies, Opposite, NotSettled, NoTarget, ZeroFailed}
-use Rattle.plan.specs.PageImages.{imageAnswerBy, imageAfterBy}
-use Rattle.reamsickle.specs.Boundary.{refusalCode}
+use Rattle.images.specs.Made.{imageAnswerBy, imageAfterBy}
+use Rattle.packing.specs.Packing.{refusalCode}
 use Rattle.reamsickle.specs.LargeBoundary.{tableCodeBy, planCodeBy, imageCodeBy, tablePageCode}
 use Rattle.region.specs.Tables.{toldReading}
 use Rattle.claims.specs.Driver.{refusalIn, planTold, readTold}

@@ -34,11 +34,11 @@ use Rattle.chip.specs.Refusals.{refusalNumber}
 use Rattle.chip.specs.declared.LargeChip.{LargeChip}
 use Rattle.chip.specs.declared.Refusal.{Refusal}
 use Rattle.chip.specs.declared.Refusal.the-variants.{Length, Range, BadBlock, Tag, Magic, Unrepairable, NoCopy, SeveralCopies, Opposite, NotSettled, NoTarget, ZeroFailed}
+use Rattle.images.specs.Made.{imageAnswerBy, imageAfterBy}
+use Rattle.packing.specs.Packing.{refusalCode, stepBytes, planBytes, stepsPut}
 use Rattle.plan.proofs.Bridge.{bridged}
-use Rattle.plan.specs.PageImages.{imageAnswerBy, imageAfterBy}
-use Rattle.reamsickle.proofs.Steps.{plan-room}
-use Rattle.reamsickle.specs.Boundary.{refusalCode}
-use Rattle.reamsickle.specs.LargeBoundary.{tableCodeBy, tableCode, stepBytes, planBytes, stepsPut, planCodeBy, stepsPutBy, planCode, stepsAfter, imageCodeBy, imageCode, roomOf}
+use Rattle.reamsickle.proofs.Room.{plan-room}
+use Rattle.reamsickle.specs.LargeBoundary.{tableCodeBy, tableCode, planCodeBy, stepsPutBy, planCode, stepsAfter, imageCodeBy, imageCode, roomOf}
 use Rattle.region.proofs.Bridge.{read-bridged}
 use Rattle.region.specs.Tables.{toldReading, roomBy}
 use Rattle.claims.specs.Driver.{refusalIn, versionIn, stepsIn, DriverStep, erases, writes, zeroes, stepByte, stepBlock, driverStep, planTold, stepsTold, imageTold, pageTold, readTold, bitmapTold, tableTold}

@@ -7,11 +7,12 @@ use borrow.Author.Tests.{eq-eqb}
 use lib.ListN.{length}
 use Rattle.chip.specs.declared.Half.the-variants.{First, Second}
 use Rattle.chip.specs.declared.Refusal.the-variants.{Unrepairable}
-use Rattle.spare.proofs.ReadBack.{reads-back}
-use Rattle.spare.specs.Claims.{Page, written as as-written, Flips, none, one, two, withFlips, flipVerdict, flipRepairs, fieldsOf, flipAnswer, flipData, Reading, ReadsBack}
-use Rattle.spare.specs.Pages.{pageRepairs}
-use Rattle.spare.specs.declared.PageAnswer.{PageAnswer}
-use Rattle.reamsickle.specs.Boundary.{refusalCode, writeCodeBy, writeCode, spareCode, spareFieldsAfter, pageCodeBy, pageFieldsBy, pageCode, pageDataAfter, pageFieldsAfter}
+use Rattle.packing.specs.Packing.{refusalCode}
+use Rattle.page.proofs.ReadBack.{reads-back}
+use Rattle.page.specs.Claims.{Page, written as as-written, Flips, none, one, two, withFlips, flipVerdict, flipRepairs, fieldsOf, flipAnswer, flipData, Reading, ReadsBack}
+use Rattle.page.specs.Pages.{pageRepairs}
+use Rattle.page.specs.declared.PageAnswer.{PageAnswer}
+use Rattle.reamsickle.specs.Boundary.{writeCodeBy, writeCode, spareCode, spareFieldsAfter, pageCodeBy, pageFieldsBy, pageCode, pageDataAfter, pageFieldsAfter}
 use Rattle.claims.specs.ReadBack.{writtenFields, byFlips, PageReads, Demand2InC}
 
 -- what reading a page answers, told in C
@@ -57,10 +58,10 @@ module _ (tag path count : ℕ) (fields : List ℕ) where
 pub demand2-in-c : Demand2InC
 unfolding writeCode spareCode spareFieldsAfter
 demand2-in-c bytes tag path count spare fields w ls lf = record {
-  written = ap writeCodeBy (h .accepted spare ls .0);
-  spare-answered = rw (eq-eqb (length fields) 11 lf, h .accepted spare ls .1, h .alone) refl;
-  spare-told = rw (eq-eqb (length fields) 11 lf, h .accepted spare ls .1, h .alone) refl;
-  page-told = λ f g rf rg. rw (h .accepted spare ls .1) (page f g (h .reads f g rf rg));
+  written = ap writeCodeBy (h .spare .accepted spare ls .0);
+  spare-answered = rw (eq-eqb (length fields) 11 lf, h .spare .accepted spare ls .1, h .spare .alone) refl;
+  spare-told = rw (eq-eqb (length fields) 11 lf, h .spare .accepted spare ls .1, h .spare .alone) refl;
+  page-told = λ f g rf rg. rw (h .spare .accepted spare ls .1) (page f g (h .reads f g rf rg));
 }
   where
     h : ReadsBack bytes tag path count

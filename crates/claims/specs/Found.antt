@@ -14,8 +14,7 @@ use Rattle.chip.specs.Large.{chipOf, bitmapBytes, pagesOf}
 use Rattle.chip.specs.declared.ChipAnswer.the-variants.{Chip}
 use Rattle.chip.specs.declared.LargeChip.{LargeChip}
 use Rattle.chip.specs.declared.Refusal.{Refusal}
-use Rattle.reamsickle.specs.Boundary.{refusalCode}
-use Rattle.reamsickle.specs.LargeBoundary.{stepBytes}
+use Rattle.packing.specs.Packing.{refusalCode, stepBytes}
 use Rattle.claims.specs.Driver.{refusalIn, versionIn, stepsIn, primaryIn, mirrorIn, stepByte, planTold, stepsTold, imageTold, pageTold, readTold, bitmapTold}
 
 -- for a snapshot: a region, and the numbers of the steps that have failed

@@ -6,14 +6,15 @@ use Prim.Native.Nat.{ℕ, _+_}
 use lib.ListN.{length}
 use Rattle.chip.specs.declared.Half.the-variants.{First, Second}
 use Rattle.chip.specs.declared.Refusal.the-variants.{Unrepairable}
-use Rattle.ecc.specs.declared.Verdict.the-variants.{Clean}
-use Rattle.spare.specs.Claims.{Page, Writable, Flips, none, one, two, RealFlips, withFlips, flipRepairs, fieldsOf}
+use Rattle.packing.specs.Packing.{refusalCode, fieldBytes}
+use Rattle.page.specs.Claims.{Page, Flips, none, one, two, RealFlips, withFlips, flipRepairs}
+use Rattle.reamsickle.specs.Boundary.{writeCode, spareCode, spareFieldsAfter, pageCode, pageDataAfter, pageFieldsAfter}
+use Rattle.spare.specs.Claims.{Writable, spareFieldsOf}
 use Rattle.spare.specs.Writing.{spareAfter}
-use Rattle.reamsickle.specs.Boundary.{refusalCode, fieldBytes, writeCode, spareCode, spareFieldsAfter, pageCode, pageDataAfter, pageFieldsAfter}
 
 -- the eleven bytes of what was written: status FF, tag, path, count, and a number of repairs
 abbrev pub writtenFields : ℕ → ℕ → ℕ → ℕ → List ℕ
-writtenFields tag path count repairs = fieldBytes (fieldsOf tag path count Clean Clean .spare) repairs
+writtenFields tag path count repairs = fieldBytes (spareFieldsOf tag path count) repairs
 
 -- by the flipped bits of both halves: one answer where the first half has two, one where only the second has, one where the page is read
 abbrev pub byFlips : {A : Type 0} → Flips → Flips → A → A → A → A

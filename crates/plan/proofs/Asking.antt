@@ -20,17 +20,18 @@ use Rattle.chip.specs.declared.ChipAnswer.the-variants.{Chip, Refused as NoChip
 use Rattle.chip.specs.declared.LargeChip.{LargeChip}
 use Rattle.chip.specs.declared.Refusal.{Refusal}
 use Rattle.chip.specs.declared.Refusal.the-variants.{Length}
-use Rattle.plan.proofs.Answering.{by-out, by-work, answer-sourced}
-use Rattle.plan.proofs.Working.{besideOf, wantedOf, workOf}
-use Rattle.plan.specs.PageImages.{lentImage, imageAnswerBy, imageAfterBy, imageAnswer, imageAfter, pageCase}
-use Rattle.plan.specs.Works.{workAnswer, Sourced}
-use Rattle.plan.specs.declared.ImageAnswer.{ImageAnswer}
-use Rattle.plan.specs.declared.ImageAnswer.the-variants.{Refused}
-use Rattle.plan.specs.declared.Work.{Work}
+use Rattle.images.specs.Made.{imageAnswerBy, imageAfterBy}
+use Rattle.images.specs.declared.ImageAnswer.{ImageAnswer}
+use Rattle.images.specs.declared.ImageAnswer.the-variants.{Refused}
 use Rattle.region.specs.Cases.{lentCase}
 use Rattle.region.specs.declared.Beside.{Beside}
 use Rattle.region.specs.declared.LentCase.the-variants.{Case as TheCase, Refused as NoCase}
 use Rattle.retire.specs.Retiring.{Lends}
+use Rattle.plan.proofs.Answering.{by-out, by-work, answer-sourced}
+use Rattle.plan.proofs.Working.{besideOf, wantedOf, workOf}
+use Rattle.plan.specs.PageImages.{lentImage, imageAnswer, imageAfter, pageCase}
+use Rattle.plan.specs.Works.{workAnswer, Sourced}
+use Rattle.plan.specs.declared.Work.{Work}
 
 -- a case is told where there is room for a page
 record RoomRight (n size : ℕ) (beside : Beside) (image status : List ℕ) (room : ℕ) (chip : LargeChip) (c : PairCase) : Type 0 where

@@ -12,12 +12,13 @@ use Rattle.chip.specs.Large.{chipOf}
 use Rattle.chip.specs.declared.ChipAnswer.{ChipAnswer}
 use Rattle.chip.specs.declared.ChipAnswer.the-variants.{Chip, Refused as NoChip}
 use Rattle.chip.specs.declared.LargeChip.{LargeChip}
+use Rattle.images.specs.Made.{imageAnswerBy, imageAfterBy}
+use Rattle.region.specs.Tables.{toldReading, roomBy, tableAnswer, tableAfter}
+use Rattle.region.specs.declared.TableAnswer.the-variants.{Refused}
 use Rattle.plan.proofs.Bridge.{bridged}
 use Rattle.plan.specs.Answers.{planAnswer}
 use Rattle.plan.specs.Dependence.{PublicDependence}
-use Rattle.plan.specs.PageImages.{lentImage, imageAnswerBy, imageAfterBy, imageAnswer, imageAfter}
-use Rattle.region.specs.Tables.{toldReading, roomBy, tableAnswer, tableAfter}
-use Rattle.region.specs.declared.TableAnswer.the-variants.{Refused}
+use Rattle.plan.specs.PageImages.{lentImage, imageAnswer, imageAfter}
 
 module _ (n size : ℕ) (status x y : List ℕ) where
   -- bbt's law for every N and size: refused ones are answered without a look at the image

@@ -2,7 +2,6 @@ pub mod NewEqualsOld
 pub mod Working
 pub mod Answering
 pub mod Asking
-pub mod Paging
 pub mod Parts
 pub mod Keeping
 pub mod Imaging

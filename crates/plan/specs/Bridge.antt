@@ -11,8 +11,9 @@ use Rattle.bbt.specs.Told.{toldAnswer}
 use Rattle.chip.specs.Large.{chipOf}
 use Rattle.chip.specs.declared.ChipAnswer.the-variants.{Chip}
 use Rattle.chip.specs.declared.LargeChip.{LargeChip}
+use Rattle.images.specs.Made.{imageAnswerBy, imageAfterBy}
 use Rattle.plan.specs.Answers.{planAnswer}
-use Rattle.plan.specs.PageImages.{imageAnswerBy, imageAfterBy, imageAnswer, imageAfter}
+use Rattle.plan.specs.PageImages.{imageAnswer, imageAfter}
 
 pub record Bridge (n size : ℕ) (chip : LargeChip) (call : Call) (image status failed : List ℕ) : Type 0 where
   -- the plan or its refusal, as it is told

@@ -1,35 +1,26 @@
 -- Document 01: page images, 2,112 bytes each, are asked for by step number from the snapshot that the first plan was made from, and the numbers
 -- of the steps that have failed since.
-use mathlib.Core.Bool.{cond, _&&_}
+use mathlib.Core.Bool.{cond}
 use mathlib.Core.List.{List}
 use Prim.Native.Nat.{ℕ}
-use lib.Dec.{eqb, leb}
-use lib.ListN.{length, take}
+use lib.Dec.{eqb}
+use lib.ListN.{length}
 use Rattle.bbt.specs.Images.{chunk, Imaged, no-image, page-image, partImage}
 use Rattle.bbt.specs.Lent.{onChip, imaged}
 use Rattle.bbt.specs.Plans.{Call}
 use Rattle.bbt.specs.Told.{toldSteps, nthStep}
-use Rattle.bbt.specs.declared.Kind.{Kind}
 use Rattle.bbt.specs.declared.PlanAnswer.{PlanAnswer}
 use Rattle.bbt.specs.declared.PlanAnswer.the-variants.{Planned, Refused as NotPlanned}
 use Rattle.bbt.specs.declared.Step.{Step}
 use Rattle.bbt.specs.declared.Step.the-variants.{Erase, Write, Zero, Past}
 use Rattle.chip.specs.Large.{chipOf}
 use Rattle.chip.specs.declared.Refusal.the-variants.{Length, Range}
-use Rattle.plan.specs.declared.ImageAnswer.{ImageAnswer}
-use Rattle.plan.specs.declared.ImageAnswer.the-variants.{Made, Refused}
+use Rattle.images.specs.Made.{imageAnswerBy, imageAfterBy}
+use Rattle.images.specs.declared.ImageAnswer.{ImageAnswer}
 use Rattle.region.specs.Cases.{lentCase}
 use Rattle.region.specs.declared.Beside.{Beside}
 use Rattle.region.specs.declared.LentCase.{LentCase}
 use Rattle.region.specs.declared.LentCase.the-variants.{Refused as NoCase}
-
--- a page of 2,112 bytes after the image of a part of at most 2,048 bytes was put into it; of other lengths, nothing is
-unfoldable pub imageInto : Kind → ℕ → List ℕ → List ℕ → List ℕ
-imageInto k v part page = cond (eqb (length page) 2112 && leb (length part) 2048) (partImage k v part) page
-
--- the same, where the part is the page's own first n bytes
-unfoldable pub finishInto : Kind → ℕ → ℕ → List ℕ → List ℕ
-finishInto k v n page = cond (eqb (length page) 2112 && leb n 2048) (partImage k v (take n page)) page
 
 -- the image of a told step, where pages of this version and bitmap are written
 abbrev pub stepImage : ℕ → List ℕ → Step → Imaged
@@ -48,15 +39,7 @@ unfoldable pub lentImage : ℕ → ℕ → Call → List ℕ → List ℕ → Li
 lentImage n size call image status failed i room =
     cond (eqb (length room) 2112) (imaged n size call image status failed i) (onChip no-image (chipOf n size) (λ chip. no-image Length))
 
--- what is answered, and the lent room after it: as it was beside a refusal
-abbrev pub imageAnswerBy : Imaged → ImageAnswer
-imageAnswerBy (no-image r) = Refused r
-imageAnswerBy (page-image bytes) = Made
-
-abbrev pub imageAfterBy : Imaged → List ℕ → List ℕ
-imageAfterBy (no-image r) room = room
-imageAfterBy (page-image bytes) room = bytes
-
+-- what is answered, and the lent room after it
 unfoldable pub imageAnswer : ℕ → ℕ → Call → List ℕ → List ℕ → List ℕ → ℕ → List ℕ → ImageAnswer
 imageAnswer n size call image status failed i room = imageAnswerBy (lentImage n size call image status failed i room)
 

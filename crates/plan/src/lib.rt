@@ -2,7 +2,7 @@
 // comes to a work, and its first plan and its page images go by the work; what failed steps make of the plan is the crate `retire`.
 ghost use mathlib.Core.Path.{_≡_};
 ghost use Prim.Native.Nat.{_*_, _<_, _≤_};
-ghost use lib.ListN.{length, replicate, take};
+ghost use lib.ListN.{length, take};
 ghost use Rattle.bbt.specs.Images.{chunk, planImage};
 ghost use Rattle.bbt.specs.Plans.{for-update, for-recovery, nextVersion, holds, updateFrom, otherKind};
 ghost use Rattle.region.specs.Stored.{storedParts, storedTable};
@@ -11,8 +11,9 @@ ghost use Rattle.bbt.specs.Pages.{seen};
 ghost use Rattle.bbt.specs.Told.{toldAnswer};
 ghost use Rattle.bitmap.specs.Made.{newEqualsOld};
 ghost use Rattle.chip.specs.Large.{bitmapBytes, pagesOf};
+ghost use Rattle.images.specs.Made.{imageAnswerBy, imageAfterBy};
 ghost use Rattle.plan.specs.Answers.{planAnswer};
-ghost use Rattle.plan.specs.PageImages.{imageInto, finishInto, imageAnswerBy, imageAfterBy, toldImage, pageCase, imageAnswer, imageAfter};
+ghost use Rattle.plan.specs.PageImages.{toldImage, pageCase, imageAnswer, imageAfter};
 ghost use Rattle.plan.specs.Works.{updateWork, missingWork, newerWork, recoveryWork, workAnswer, workBitmap, Sourced};
 ghost use Rattle.retire.specs.Retiring.{Lends};
 use bbt::Kind;
@@ -26,6 +27,7 @@ use chip::ChipAnswer;
 use chip::LargeChip;
 use chip::Refusal;
 use chip::RegionBlock;
+use images::ImageAnswer;
 use region::Beside;
 use region::LentCase;
 use region::TargetAnswer;
@@ -127,22 +129,6 @@ fn plan_on(chip: LargeChip, version: u8, shape: Shape) -> PlanAnswer
     })
 }
 
-// Page p's bytes of a lent bitmap.
-pub fn chunk_of(bitmap: &[u8], p: u8) -> &[u8]
-    ensures { λ r. ⌜ now r ≡ chunk p (now (bitmap .entry)) ⌝ }
-{
-    let n = bitmap.len();
-    let at = LargeChip::PAGE * (p as usize);
-    if n <= at {
-        return &bitmap[0..0];
-    }
-    let end = at + LargeChip::PAGE;
-    if n < end {
-        return &bitmap[at..n];
-    }
-    &bitmap[at..end]
-}
-
 // Does the update rule keep the table of a block as it is?
 fn new_table_equals_old(chip: LargeChip, image: &[u8], b: RegionBlock, wanted: &[u8]) -> bool
     requires { ⌜ (chip .region * pagesOf chip * 2112 ≤ length (now image)) × (b .0 < chip .region) × (length (now wanted) ≡ bitmapBytes chip) ⌝ }
@@ -152,7 +138,7 @@ fn new_table_equals_old(chip: LargeChip, image: &[u8], b: RegionBlock, wanted: &
     let mut kept = true;
     let mut p: u8 = 0;
     while (p as usize) < pages {
-        if !bitmap::new_equals_old(region::part(chip, image, b, p), chunk_of(wanted, p)) {
+        if !bitmap::new_equals_old(region::part(chip, image, b, p), images::chunk_of(wanted, p)) {
             kept = false;
         }
         p += 1;
@@ -260,53 +246,6 @@ pub fn recovery_plan(n: u64, size: u64, image: &[u8], status: &[u8], failed: &[u
     }
 }
 
-// Fills a page, or a part of one, with FF, as an erase leaves it.
-fn blank(page: &mut [u8])
-    ensures { λ _. ⌜ now (page .exit) ≡ replicate (length (now (page .entry))) 255 ⌝ }
-{
-    let mut i: usize = 0;
-    while i < page.len() {
-        page[i] = 0xFF;
-        i += 1;
-    }
-}
-
-// Finishes a page image whose first n bytes are its part of a table: the rest FF, with the signature and the version. Nothing is done
-// where the page has not 2,112 bytes, or n is above 2,048.
-fn finish_page(n: usize, kind: Kind, version: u8, page: &mut [u8])
-    ensures { λ _. ⌜ now (page .exit) ≡ finishInto kind version n (now (page .entry)) ⌝ }
-{
-    if page.len() != LargeChip::PAGE_WITH_OOB {
-        return;
-    }
-    if LargeChip::PAGE < n {
-        return;
-    }
-    blank(&mut page[n..LargeChip::PAGE_WITH_OOB]);
-    let s = bits::bytes_of(kind.signature());
-    let tail = [s[0], s[1], s[2], s[3], version];
-    bits::copy(
-        &tail,
-        &mut page[LargeChip::SIGNATURE..LargeChip::VERSION + 1],
-    );
-}
-
-// The image of a page of a copy, from its part of the table, its kind and its version. Nothing is done where the page has not 2,112 bytes,
-// or the part has more than 2,048.
-pub fn page_image(part: &[u8], kind: Kind, version: u8, page: &mut [u8])
-    ensures { λ _. ⌜ now (page .exit) ≡ imageInto kind version (now (part .entry)) (now (page .entry)) ⌝ }
-{
-    if page.len() != LargeChip::PAGE_WITH_OOB {
-        return;
-    }
-    let n = part.len();
-    if LargeChip::PAGE < n {
-        return;
-    }
-    bits::copy(part, &mut page[0..n]);
-    finish_page(n, kind, version, page);
-}
-
 // The new table's bytes of page p, put first into `out`; how many there are.
 fn new_part(
     chip: LargeChip,
@@ -325,7 +264,7 @@ fn new_part(
         Work::Update(b, _) => {
             let old = region::part(chip, image, b, p);
             let n = old.len();
-            bitmap::update_into(old, chunk_of(wanted, p), &mut out[0..n]);
+            bitmap::update_into(old, images::chunk_of(wanted, p), &mut out[0..n]);
             n
         }
         Work::Copy(b, _, _) => {
@@ -341,12 +280,6 @@ fn new_part(
             n
         }
     }
-}
-
-// What asking for a page image answers.
-pub enum ImageAnswer {
-    Made,
-    Refused(Refusal),
 }
 
 // The page image of a step of what was planned for a work.
@@ -373,7 +306,7 @@ fn page_by(
                 Step::Past => ImageAnswer::Refused(Refusal::Range),
                 Step::Write(_, p, kind) => {
                     let n = new_part(chip, image, wanted, work, p, &mut page[0..LargeChip::PAGE]);
-                    finish_page(n, kind, version, page);
+                    images::finish_page(n, kind, version, page);
                     ImageAnswer::Made
                 }
             }

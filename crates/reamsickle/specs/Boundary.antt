@@ -5,29 +5,22 @@ use mathlib.Core.List.{List, [], _∷_}
 use Prim.Native.Nat.{ℕ, _+_, _*_, _^_}
 use lib.Dec.{eqb}
 use lib.ListN.{length}
-use Rattle.bits.specs.Bytes.{byteOf}
 use Rattle.boot.specs.Answers.{mapAnswer, orderNumber}
 use Rattle.boot.specs.declared.MapAnswer.{MapAnswer}
 use Rattle.boot.specs.declared.MapAnswer.the-variants.{Mapped, OutOfOrder, Refused as MapRefused}
-use Rattle.chip.specs.Refusals.{refusalNumber, refusalDetail}
-use Rattle.chip.specs.declared.Refusal.{Refusal}
 use Rattle.chip.specs.declared.Refusal.the-variants.{Length}
 use Rattle.ecc.specs.Half.{codeOf}
 use Rattle.ecc.specs.declared.Code.{Code}
-use Rattle.spare.specs.Pages.{pageAnswer, dataAfter, pageRepairs}
+use Rattle.packing.specs.Packing.{refusalCode, fieldBytes}
+use Rattle.page.specs.Pages.{pageAnswer, dataAfter, pageRepairs}
+use Rattle.page.specs.declared.PageAnswer.{PageAnswer}
+use Rattle.page.specs.declared.PageAnswer.the-variants.{Read as PageRead, Refused as PageRefused}
 use Rattle.spare.specs.Reading.{spareAnswer, spareRepairs}
 use Rattle.spare.specs.Writing.{writeAnswer}
-use Rattle.spare.specs.declared.PageAnswer.{PageAnswer}
-use Rattle.spare.specs.declared.PageAnswer.the-variants.{Read as PageRead, Refused as PageRefused}
 use Rattle.spare.specs.declared.SpareAnswer.{SpareAnswer}
 use Rattle.spare.specs.declared.SpareAnswer.the-variants.{Read as SpareRead, Refused as SpareRefused}
-use Rattle.spare.specs.declared.SpareFields.{SpareFields}
 use Rattle.spare.specs.declared.WriteAnswer.{WriteAnswer}
 use Rattle.spare.specs.declared.WriteAnswer.the-variants.{Written, Refused as WriteRefused}
-
--- a refusal: its number, and its detail above
-abbrev pub refusalCode : Refusal → ℕ
-refusalCode r = refusalNumber r + 256 * refusalDetail r
 
 -- ---- ream_half_code
 abbrev pub codeBytes : Code → List ℕ
@@ -50,22 +43,6 @@ writeCodeBy (WriteRefused r) = refusalCode r
 
 unfoldable pub writeCode : List ℕ → ℕ → ℕ → ℕ → List ℕ → ℕ
 writeCode bytes tag path count spare = writeCodeBy (writeAnswer bytes tag path count spare)
-
--- ---- the eleven bytes of what was read: status, tag, path and count big endian, number of repairs
-abbrev pub fieldBytes : SpareFields → ℕ → List ℕ
-fieldBytes f repairs =
-    f .status
-    ∷ f .tag
-    ∷ byteOf 3 (f .path)
-    ∷ byteOf 2 (f .path)
-    ∷ byteOf 1 (f .path)
-    ∷ byteOf 0 (f .path)
-    ∷ byteOf 3 (f .count)
-    ∷ byteOf 2 (f .count)
-    ∷ byteOf 1 (f .count)
-    ∷ byteOf 0 (f .count)
-    ∷ repairs
-    ∷ []
 
 -- ---- ream_spare_read
 abbrev pub spareCodeBy : SpareAnswer → ℕ

@@ -1,30 +1,28 @@
 -- The C boundary of the large chip: what an answered call tells above the refusal number, and what each lent buffer holds afterwards.
 -- Every definition is at every input; a refused call leaves what was lent.
 use mathlib.Core.Bool.{cond}
-use mathlib.Core.List.{List, [], _∷_, _++_}
-use Prim.Native.Nat.{ℕ, _+_, _*_, _/_, _%_}
+use mathlib.Core.List.{List}
+use Prim.Native.Nat.{ℕ, _+_, _*_, _%_}
 use lib.Dec.{eqb}
-use lib.ListN.{length, drop}
+use lib.ListN.{length}
 use Rattle.bbt.specs.Lent.{onChip}
 use Rattle.bbt.specs.Plans.{Call}
 use Rattle.bbt.specs.Told.{toldSteps}
 use Rattle.bbt.specs.declared.PlanAnswer.{PlanAnswer}
 use Rattle.bbt.specs.declared.PlanAnswer.the-variants.{Planned, Refused as NotPlanned}
-use Rattle.bbt.specs.declared.Step.{Step}
-use Rattle.bbt.specs.declared.Step.the-variants.{Erase, Write, Zero, Past}
 use Rattle.bitmap.specs.Made.{firstAnswer}
 use Rattle.bitmap.specs.declared.BitmapAnswer.{BitmapAnswer}
 use Rattle.bitmap.specs.declared.BitmapAnswer.the-variants.{Made, Refused as NotMade}
 use Rattle.bringup.specs.TablePages.{tablePageAnswer}
 use Rattle.chip.specs.Large.{chipOf}
 use Rattle.chip.specs.declared.Refusal.the-variants.{Length}
+use Rattle.images.specs.declared.ImageAnswer.{ImageAnswer}
+use Rattle.images.specs.declared.ImageAnswer.the-variants.{Made as ImageMade, Refused as NoImage}
+use Rattle.packing.specs.Packing.{refusalCode, stepsPut}
 use Rattle.plan.specs.PageImages.{imageAnswer}
-use Rattle.plan.specs.declared.ImageAnswer.{ImageAnswer}
-use Rattle.plan.specs.declared.ImageAnswer.the-variants.{Made as ImageMade, Refused as NoImage}
 use Rattle.region.specs.Tables.{tableAnswer}
 use Rattle.region.specs.declared.TableAnswer.{TableAnswer}
 use Rattle.region.specs.declared.TableAnswer.the-variants.{Read, Refused as NotRead}
-use Rattle.reamsickle.specs.Boundary.{refusalCode}
 
 -- ---- ream_first_bitmap
 abbrev pub firstCodeBy : BitmapAnswer → ℕ
@@ -44,24 +42,6 @@ unfoldable pub tableCode : ℕ → ℕ → List ℕ → List ℕ → List ℕ �
 tableCode n size image status room = tableCodeBy (tableAnswer n size image status room)
 
 -- ---- ream_update_plan, ream_recovery_plan
--- a step in four bytes: kind, chip block big endian, page. No plan holds a step past its end
-abbrev pub fourBytes : ℕ → ℕ → ℕ → List ℕ
-fourBytes kind block page = kind ∷ block / 256 % 256 ∷ block % 256 ∷ page ∷ []
-
-abbrev pub stepBytes : Step → List ℕ
-stepBytes (Erase b) = fourBytes 0 (b .0) 0
-stepBytes (Write b p k) = fourBytes 1 (b .0) p
-stepBytes (Zero b) = fourBytes 2 (b .0) 0
-stepBytes Past = fourBytes 0 0 0
-
-unfoldable pub planBytes : List Step → List ℕ
-planBytes [] = []
-planBytes (s ∷ ss) = stepBytes s ++ planBytes ss
-
--- the lent bytes with the steps put first; those past the last step keep what they held
-unfoldable pub stepsPut : List Step → List ℕ → List ℕ
-stepsPut ss room = planBytes ss ++ drop (4 * length ss) room
-
 -- the version in bits 8-15, the number of steps in bits 16-23
 abbrev pub planCodeBy : PlanAnswer → ℕ
 planCodeBy (Planned q) = 256 * q .version + 65536 * length (toldSteps q)

@@ -1,25 +1,18 @@
 // The C entries: thin functions on numbers and byte slices over the crates below. Each has its answer as one number (include/reamsickle.h).
-ghost use mathlib.Core.List.{[]};
 ghost use mathlib.Core.Path.{_≡_};
-ghost use Prim.Native.Nat.{_*_, _<_, _≤_};
+ghost use Prim.Native.Nat.{_≤_};
 ghost use lib.ListN.{length};
 ghost use Rattle.bbt.specs.Plans.{for-update, for-recovery};
-ghost use Rattle.bbt.specs.Told.{stepsBy, retiredFirst, toldSteps};
 ghost use Rattle.bitmap.specs.Made.{firstAfter};
-ghost use Rattle.bits.specs.Bytes.{copied};
 ghost use Rattle.boot.specs.Answers.{listAfter};
 ghost use Rattle.bringup.specs.TablePages.{tablePageAfter};
-ghost use Rattle.reamsickle.specs.Boundary.{refusalCode, fieldBytes, halfCode, halfCodeAfter, writeCode, spareCode, spareFieldsAfter, pageCode, pageDataAfter, pageFieldsAfter, mapCode};
 ghost use Rattle.plan.specs.Answers.{planAnswer};
 ghost use Rattle.plan.specs.PageImages.{imageAfter};
-ghost use Rattle.reamsickle.specs.LargeBoundary.{firstCode, tableCode, stepBytes, stepsPut, planCodeBy, stepsPutBy, planCode, stepsAfter, roomOf, imageCodeBy, imageCode, tablePageCode};
+ghost use Rattle.reamsickle.specs.Boundary.{halfCode, halfCodeAfter, writeCode, spareCode, spareFieldsAfter, pageCode, pageDataAfter, pageFieldsAfter, mapCode};
+ghost use Rattle.reamsickle.specs.LargeBoundary.{firstCode, tableCode, planCodeBy, stepsPutBy, planCode, stepsAfter, roomOf, imageCodeBy, imageCode, tablePageCode};
 ghost use Rattle.region.specs.Tables.{tableAfter};
 ghost use Rattle.spare.specs.Writing.{spareAfter};
-use bbt::Plan;
 use bbt::PlanAnswer;
-use bbt::Retired;
-use bbt::Shape;
-use bbt::Step;
 use bitmap::BitmapAnswer;
 use boot::Listing;
 use boot::MapAnswer;
@@ -27,11 +20,10 @@ use chip::ChipAnswer;
 use chip::LargeChip;
 use chip::Refusal;
 use chip::SmallChip;
-use plan::ImageAnswer;
+use images::ImageAnswer;
+use page::PageAnswer;
 use region::TableAnswer;
-use spare::PageAnswer;
 use spare::SpareAnswer;
-use spare::SpareFields;
 use spare::WriteAnswer;
 
 // Bits 0 to 7 of the answer of a call that was not refused.
@@ -48,13 +40,6 @@ const PAGE_FIELDS: usize = SmallChip::FIELDS;
 // The bytes of a plan's steps: sixteen of four.
 const STEPS: usize = 64;
 
-// A refusal's number in the low 8 bits, its detail above.
-fn refusal_code(r: Refusal) -> u64
-    ensures { λ n. ⌜ n ≡ refusalCode r ⌝ }
-{
-    (r.number() as u64) + 256 * (r.detail() as u64)
-}
-
 // The code of a half: 256 bytes in, three out.
 #[no_mangle]
 pub extern "C" fn ream_half_code(half: &[u8], code: &mut [u8]) -> u64
@@ -62,10 +47,10 @@ pub extern "C" fn ream_half_code(half: &[u8], code: &mut [u8]) -> u64
     ensures out { λ _. ⌜ now (code .exit) ≡ halfCodeAfter (now (half .entry)) (now (code .entry)) ⌝ }
 {
     if half.len() != SmallChip::HALF {
-        return refusal_code(Refusal::Length);
+        return packing::refusal_code(Refusal::Length);
     }
     if code.len() != SmallChip::CODE {
-        return refusal_code(Refusal::Length);
+        return packing::refusal_code(Refusal::Length);
     }
     let c = ecc::code_of(half);
     let made = [c.one, c.two, c.three];
@@ -87,30 +72,8 @@ pub extern "C" fn ream_spare_write(
 {
     match spare::write_spare(bytes, tag, path, count, spare) {
         WriteAnswer::Written => ANSWERED,
-        WriteAnswer::Refused(r) => refusal_code(r),
+        WriteAnswer::Refused(r) => packing::refusal_code(r),
     }
-}
-
-// What was read, in eleven bytes.
-fn put_fields(f: SpareFields, repairs: u8, fields: &mut [u8])
-    ensures { λ _. ⌜ now (fields .exit) ≡ copied (fieldBytes f repairs) (now (fields .entry)) ⌝ }
-{
-    let p = bits::bytes_of(f.path);
-    let c = bits::bytes_of(f.count);
-    let made = [
-        f.status,
-        f.tag,
-        p[0],
-        p[1],
-        p[2],
-        p[3],
-        c[0],
-        c[1],
-        c[2],
-        c[3],
-        repairs,
-    ];
-    bits::copy(&made, fields);
 }
 
 // Reads a spare: sixteen bytes in, eleven out.
@@ -120,13 +83,13 @@ pub extern "C" fn ream_spare_read(spare: &[u8], fields: &mut [u8]) -> u64
     ensures out { λ _. ⌜ now (fields .exit) ≡ spareFieldsAfter (now (spare .entry)) (now (fields .entry)) ⌝ }
 {
     if fields.len() != SPARE_FIELDS {
-        return refusal_code(Refusal::Length);
+        return packing::refusal_code(Refusal::Length);
     }
     match spare::read_spare(spare) {
-        SpareAnswer::Refused(r) => refusal_code(r),
+        SpareAnswer::Refused(r) => packing::refusal_code(r),
         SpareAnswer::Read(f) => {
             let repaired = f.repaired;
-            put_fields(f, repaired.repairs(), fields);
+            packing::put_fields(f, repaired.repairs(), fields);
             ANSWERED
         }
     }
@@ -140,13 +103,13 @@ pub extern "C" fn ream_page_read(bytes: &mut [u8], spare: &[u8], fields: &mut [u
     ensures out { λ _. ⌜ now (fields .exit) ≡ pageFieldsAfter (now (bytes .entry)) (now (spare .entry)) (now (fields .entry)) ⌝ }
 {
     if fields.len() != PAGE_FIELDS {
-        return refusal_code(Refusal::Length);
+        return packing::refusal_code(Refusal::Length);
     }
-    match spare::read_page(bytes, spare) {
-        PageAnswer::Refused(r) => refusal_code(r),
+    match page::read_page(bytes, spare) {
+        PageAnswer::Refused(r) => packing::refusal_code(r),
         PageAnswer::Read(f) => {
             let told = f.spare;
-            put_fields(told, f.repairs(), fields);
+            packing::put_fields(told, f.repairs(), fields);
             ANSWERED
         }
     }
@@ -165,7 +128,7 @@ pub extern "C" fn ream_boot_map(
     ensures erased { λ _. ⌜ now (erased .exit) ≡ listAfter Listing.ToErase number (now (spares .entry)) (now (mapped .entry)) (now (erased .entry)) (now (erased .entry)) ⌝ }
 {
     match boot::boot_map(number, spares, mapped, erased) {
-        MapAnswer::Refused(r) => refusal_code(r),
+        MapAnswer::Refused(r) => packing::refusal_code(r),
         MapAnswer::OutOfOrder(k) => OUT_OF_ORDER + 256 * (k.0 as u64),
         MapAnswer::Mapped(counts) => {
             256 * (counts.mapped as u64) + 16777216 * (counts.erased as u64) + ANSWERED
@@ -181,7 +144,7 @@ pub extern "C" fn ream_first_bitmap(n: u64, size: u64, marks: &[u8], bitmap: &mu
 {
     match bitmap::first_bitmap(n, size, marks, bitmap) {
         BitmapAnswer::Made => ANSWERED,
-        BitmapAnswer::Refused(r) => refusal_code(r),
+        BitmapAnswer::Refused(r) => packing::refusal_code(r),
     }
 }
 
@@ -198,7 +161,7 @@ pub extern "C" fn ream_table_read(
     ensures out { λ _. ⌜ now (bitmap .exit) ≡ tableAfter n size (now (image .entry)) (now (status .entry)) (now (bitmap .entry)) ⌝ }
 {
     match region::read_table(n, size, image, status, bitmap) {
-        TableAnswer::Refused(r) => refusal_code(r),
+        TableAnswer::Refused(r) => packing::refusal_code(r),
         TableAnswer::Read(version, primary, mirror) => {
             256 * (version as u64)
                 + 65536 * ((primary.0 % 65536) as u64)
@@ -208,63 +171,6 @@ pub extern "C" fn ream_table_read(
     }
 }
 
-// A step in four bytes: kind, chip block big endian, page.
-fn step_bytes(step: Step) -> [u8; 4]
-    ensures { λ r. ⌜ r ≡ stepBytes step ⌝ }
-{
-    match step {
-        Step::Erase(b) => [0, (b.0 / 256 % 256) as u8, (b.0 % 256) as u8, 0],
-        Step::Write(b, page, _) => [1, (b.0 / 256 % 256) as u8, (b.0 % 256) as u8, page],
-        Step::Zero(b) => [2, (b.0 / 256 % 256) as u8, (b.0 % 256) as u8, 0],
-        Step::Past => [0, 0, 0, 0],
-    }
-}
-
-// Puts the zero step, where a block is retired, into the first bytes of `steps`, and tells how many it takes.
-fn put_zero(chip: LargeChip, retired: Retired, steps: &mut [u8]) -> usize
-    requires { ⌜ 4 ≤ length (now steps) ⌝ }
-    ensures count { λ r. ⌜ r ≡ 4 * length (retiredFirst chip retired []) ⌝ }
-    ensures out { λ _. ⌜ now (steps .exit) ≡ stepsPut (retiredFirst chip retired []) (now (steps .entry)) ⌝ }
-{
-    match retired {
-        Retired::Nothing => 0,
-        Retired::Block(b) => {
-            let four = step_bytes(Step::Zero(bbt::chip_block(chip, b)));
-            bits::copy(&four, &mut steps[0..4]);
-            4
-        }
-    }
-}
-
-// Puts the steps that write what a plan writes into the first bytes of `steps`.
-fn put_shape(chip: LargeChip, shape: Shape, steps: &mut [u8])
-    requires { ⌜ 4 * length (stepsBy chip shape) ≤ length (now steps) ⌝ }
-    ensures { λ _. ⌜ now (steps .exit) ≡ stepsPut (stepsBy chip shape) (now (steps .entry)) ⌝ }
-{
-    let total = bbt::shape_count(chip, shape) as usize;
-    let mut k: usize = 0;
-    while k < total {
-        let four = step_bytes(bbt::shape_step(chip, shape, k as u64));
-        let at = 4 * k;
-        let end = at + 4;
-        bits::copy(&four, &mut steps[at..end]);
-        k += 1;
-    }
-}
-
-// Puts the steps of a plan into the first bytes of `steps`: the zero step, where there is one, and the others behind it.
-fn put_steps(plan: Plan, steps: &mut [u8])
-    requires { ⌜ (4 * length (toldSteps plan) ≤ length (now steps)) × (4 ≤ length (now steps)) ⌝ }
-    ensures { λ _. ⌜ now (steps .exit) ≡ stepsPut (toldSteps plan) (now (steps .entry)) ⌝ }
-{
-    let chip = plan.chip;
-    let retired = plan.retired;
-    let shape = plan.shape;
-    let at = put_zero(chip, retired, steps);
-    let end = steps.len();
-    put_shape(chip, shape, &mut steps[at..end]);
-}
-
 // Tells what was planned where there is room for sixteen steps.
 fn tell_answer(answer: PlanAnswer, steps: &mut [u8]) -> u64
     requires { ⌜ (roomOf answer ≤ 64) × (length (now steps) ≡ 64) ⌝ }
@@ -272,10 +178,10 @@ fn tell_answer(answer: PlanAnswer, steps: &mut [u8]) -> u64
     ensures out { λ _. ⌜ now (steps .exit) ≡ stepsPutBy answer (now (steps .entry)) ⌝ }
 {
     match answer {
-        PlanAnswer::Refused(r) => refusal_code(r),
+        PlanAnswer::Refused(r) => packing::refusal_code(r),
         PlanAnswer::Planned(plan) => {
             let version = plan.version;
-            put_steps(plan, steps);
+            packing::put_plan(plan, steps);
             256 * (version as u64) + 65536 * (plan.step_count() as u64) + ANSWERED
         }
     }
@@ -291,8 +197,8 @@ fn tell_plan(n: u64, size: u64, answer: PlanAnswer, steps: &mut [u8]) -> u64
         return tell_answer(answer, steps);
     }
     match LargeChip::new(n, size) {
-        ChipAnswer::Refused(r) => refusal_code(r),
-        ChipAnswer::Chip(_) => refusal_code(Refusal::Length),
+        ChipAnswer::Refused(r) => packing::refusal_code(r),
+        ChipAnswer::Chip(_) => packing::refusal_code(Refusal::Length),
     }
 }
 
@@ -347,7 +253,7 @@ fn image_code(answer: ImageAnswer) -> u64
 {
     match answer {
         ImageAnswer::Made => ANSWERED,
-        ImageAnswer::Refused(r) => refusal_code(r),
+        ImageAnswer::Refused(r) => packing::refusal_code(r),
     }
 }
 

@@ -1,82 +1,44 @@
--- Demand 2 for pages: each half tells what the half-page code claims of it, and a flipped data bit is put right by one flip more.
+-- Demand 2 for spares: a protected word reads back from its bytes, a tag is its own nearest, and the codes between them are not looked at.
 -- Assumes nothing.
-use mathlib.Core.Bool.{true, cond, false≢true}
 use mathlib.Core.List.{List}
 use mathlib.Core.Path.{_≡_, refl, _∙_, ap}
-use Prim.Native.Nat.{ℕ, _+_, _≤_, _^_}
+use Prim.Native.Nat.{ℕ, _<_, _^_}
 use native.Mathlib.Omega.{arith}
 use borrow.Author.Tests.{eq-eqb, le-leb, lt-ltb}
+use lib.Count.{ones, onesIn}
 use lib.ListN.{length}
-use Rattle.bits.proofs.Bytes.{flip-twice}
-use Rattle.chip.specs.declared.Half.{Half}
-use Rattle.chip.specs.declared.Half.the-variants.{First, Second}
-use Rattle.chip.specs.declared.Refusal.the-variants.{Unrepairable}
-use Rattle.ecc.specs.declared.Verdict.the-variants.{Clean}
-use Rattle.ecc.specs.Claims.{Protects, told}
-use Rattle.ecc.specs.Flips.{Place, dataAt, codeAt, Real, named, written as kept}
-use Rattle.ecc.specs.Verdicts.{halfStart, mended, repairs}
-use Rattle.ecc.proofs.Protection.{protects}
-use Rattle.spare.specs.declared.PageAnswer.{PageAnswer}
-use Rattle.spare.specs.declared.PageAnswer.the-variants.{Refused}
-use Rattle.spare.specs.declared.SpareAnswer.the-variants.{Read as SpareRead}
+use Rattle.bits.specs.Bytes.{word, byteOf}
+use Rattle.bits.proofs.Bit.{number-lt}
+use Rattle.bits.proofs.Words.{word-bytes}
+use Rattle.ecc.specs.declared.Code.{Code}
+use Rattle.hamming.specs.declared.Repair.the-variants.{Clean}
+use Rattle.hamming.specs.Word.{checkBit, checkBits, encoded, decoded}
+use Rattle.hamming.proofs.Protection.{protects}
+use Rattle.spare.specs.declared.SpareAnswer.the-variants.{Read}
 use Rattle.spare.specs.declared.WriteAnswer.the-variants.{Written}
-use Rattle.spare.specs.Claims.{Page, Writable, written, flipped, Flips, none, one, two, RealFlips, withFlips, flipVerdict, flipRepairs, fieldsOf, unlessTwo, flipAnswer, flipData, Reading, ReadsBack}
-use Rattle.spare.specs.Pages.{isRepairable, byVerdicts, dataBy}
-use Rattle.spare.specs.Reading.{spareAnswer}
-use Rattle.spare.specs.Writing.{firstHalf, secondHalf, isWritable, spareOf, writeAnswer, spareAfter}
-use Rattle.spare.proofs.TwoHalves.{keptWith, flipsIn, start, page-written, page-second, page-both, page-length, page-spare, page-read}
+use Rattle.spare.specs.Claims.{Writable, spareFieldsOf, SpareReadsBack}
+use Rattle.spare.specs.Reading.{magicOf, countOf, byWords, spareAnswer}
+use Rattle.spare.specs.Status.{statusOf}
+use Rattle.spare.specs.Writing.{magicAndCount, isWritable, spareWith, spareOf, writeAnswer, spareAfter}
+use Rattle.spare.proofs.Tagging.{tag-table}
 
--- ---- the verdict that names a place
-named-repairable : (q : Place) → isRepairable (named q) ≡ true
-named-repairable (dataAt a b) = refl
-named-repairable (codeAt j) = refl
+-- a protected word as it stands in a spare
+word-read : (n : ℕ) → n < 2 ^ 26
+    → decoded (word (byteOf 3 (encoded n)) (byteOf 2 (encoded n)) (byteOf 1 (encoded n)) (byteOf 0 (encoded n)))
+    ≡ record { bits = n; repair = Clean }
+word-read n h =
+    let fits : encoded n < 2 ^ 32 = unfold encoded checkBits in omega (arith, number-lt 5 (λ j. checkBit j n)) in
+    ap decoded (word-bytes (encoded n) fits) ∙ protects .clean n h
 
-named-repairs : (q : Place) → repairs (named q) ≡ 1
-named-repairs (dataAt a b) = refl
-named-repairs (codeAt j) = refl
-
-start-le : (h : Half) → halfStart h ≤ 256
-start-le First = omega arith
-start-le Second = omega arith
-
--- a flipped bit is put right, in whichever half
-named-mends : (h : Half) (q : Place) (p : Page) → Real q → length (p .bytes) ≡ 512 → mended h (named q) (flipped h q p .bytes) ≡ p .bytes
-named-mends h (dataAt a b) p r l = rw (lt-ltb b 8 (r .1)) (flip-twice (p .bytes) (halfStart h + a) b (omega (arith, start-le h)))
-named-mends h (codeAt j) p r l = refl
-
--- ---- the verdict of up to two flips
--- what the half-page code claims of a half
-flips-told : (half : List ℕ) → Protects half → (f : Flips) → RealFlips f → told (keptWith f (kept half)) ≡ flipVerdict f
-flips-told half p none s = p .clean
-flips-told half p (one q) s = p .one q s
-flips-told half p (two q r) s = p .two q r (s .0) (s .1) (s .2)
-
-flips-repairs : (f : Flips) → repairs (flipVerdict f) ≡ flipRepairs f
-flips-repairs none = refl
-flips-repairs (one q) = named-repairs q
-flips-repairs (two q r) = refl
-
--- two are refused, fewer are put right
-flips-answer : (h : Half) (f : Flips) (a : PageAnswer) → cond (isRepairable (flipVerdict f)) a (Refused (Unrepairable h)) ≡ unlessTwo h f a
-flips-answer h none a = refl
-flips-answer h (one q) a = rw (named-repairable q)
-flips-answer h (two q r) a = refl
-
-flips-leave : (h : Half) (f : Flips) (a : PageAnswer) (asWritten lent : List ℕ)
-    → (isRepairable (flipVerdict f) ≡ true → dataBy a lent ≡ flipData a asWritten lent)
-    → dataBy (unlessTwo h f a) lent ≡ flipData (unlessTwo h f a) asWritten lent
-flips-leave h none a asWritten lent k = k refl
-flips-leave h (one q) a asWritten lent k = k (named-repairable q)
-flips-leave h (two q r) a asWritten lent k = refl
-
-flips-mend : (h : Half) (f : Flips) (p : Page) → RealFlips f → length (p .bytes) ≡ 512 → isRepairable (flipVerdict f) ≡ true
-    → mended h (flipVerdict f) (withFlips h f p .bytes) ≡ p .bytes
-flips-mend h none p s l e = refl
-flips-mend h (one q) p s l e = named-mends h q p s l
-flips-mend h (two q r) p s l e = absurd (false≢true e)
-
--- ---- the claim
 module _ {bytes : List ℕ} {tag path count : ℕ} (w : Writable bytes tag path count) where
+  -- with any codes
+  pub spare-read : (first second : Code) → spareAnswer (spareWith first second tag path count) ≡ Read (spareFieldsOf tag path count)
+  unfolding spareAnswer statusOf ones onesIn byWords
+  spare-read first second =
+      let magic : magicOf (magicAndCount count) ≡ 0x56 = omega arith in
+      let low : countOf (magicAndCount count) ≡ count = omega arith in
+      rw (tag-table .itself tag (w .known), word-read path (w .short), word-read (magicAndCount count) (omega arith), magic, low, eq-eqb tag tag refl)
+
   accepted : (lent : List ℕ) → length lent ≡ 16
       → (writeAnswer bytes tag path count lent ≡ Written) × (spareAfter bytes tag path count lent ≡ spareOf bytes tag path count)
   unfolding writeAnswer spareAfter isWritable
@@ -87,43 +49,9 @@ module _ {bytes : List ℕ} {tag path count : ℕ} (w : Writable bytes tag path 
       let few = le-leb count 262142 (w .few) in
       (rw (whole, room, w .known, short, few) refl, rw (whole, room, w .known, short, few) refl)
 
-  alone : spareAnswer (spareOf bytes tag path count) ≡ SpareRead (fieldsOf tag path count Clean Clean .spare)
-  alone = rw (ap (λ (p : Page). p .spare) (page-written w)) (page-spare w (start w))
+  alone : spareAnswer (spareOf bytes tag path count) ≡ Read (spareFieldsOf tag path count)
+  unfolding spareOf
+  alone = spare-read _ _
 
-  -- the page with f and g flipped in its halves
-  abbrev withBoth : Flips → Flips → Page
-  withBoth f g = withFlips First f (withFlips Second g (written bytes tag path count))
-
-  answers : (f g : Flips) → byVerdicts (fieldsOf tag path count Clean Clean .spare) (flipVerdict f) (flipVerdict g) ≡ flipAnswer tag path count f g
-  unfolding byVerdicts
-  answers f g = rw (flips-answer Second g) (flips-answer First f _)
-
-  leaves : (f g : Flips) → RealFlips f → RealFlips g
-      → dataBy (flipAnswer tag path count f g) (withBoth f g .bytes) ≡ flipData (flipAnswer tag path count f g) bytes (withBoth f g .bytes)
-  leaves f g s t =
-      flips-leave First f _ bytes (withBoth f g .bytes)
-      (λ e. flips-leave Second g _ bytes (withBoth f g .bytes)
-      (λ d. ap (mended Second (flipVerdict g)) (flips-mend First f second s whole e) ∙ flips-mend Second g (written bytes tag path count) t (w .whole) d))
-    where
-      second : Page
-      second = withFlips Second g (written bytes tag path count)
-
-      whole : length (second .bytes) ≡ 512
-      whole = rw (page-second w g t) (page-length w (flipsIn Second g (start w)))
-
-  reads : (f g : Flips) → RealFlips f → RealFlips g
-      → Reading (withBoth f g) (flipAnswer tag path count f g) (flipData (flipAnswer tag path count f g) bytes (withBoth f g .bytes))
-  reads f g s t =
-      page-read w (flipsIn First f (flipsIn Second g (start w))) (page-both w f g s t)
-      (flips-told (firstHalf bytes) (protects (firstHalf bytes) (start w .firstWhole)) f s)
-      (flips-told (secondHalf bytes) (protects (secondHalf bytes) (start w .secondWhole)) g t)
-      (answers f g) (leaves f g s t)
-
-pub reads-back : (bytes : List ℕ) (tag path count : ℕ) → Writable bytes tag path count → ReadsBack bytes tag path count
-reads-back bytes tag path count w =
-    record {
-      accepted = accepted w;
-      alone = alone w;
-      reads = reads w;
-      counted = λ f g. omega (arith, flips-repairs f, flips-repairs g);
-    }
+pub spare-reads-back : (bytes : List ℕ) (tag path count : ℕ) → Writable bytes tag path count → SpareReadsBack bytes tag path count
+spare-reads-back bytes tag path count w = record { accepted = accepted w; alone = alone w }

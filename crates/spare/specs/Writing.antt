@@ -7,6 +7,7 @@ use lib.ListN.{length, take, drop}
 use Rattle.bits.specs.Bytes.{byteOf}
 use Rattle.chip.specs.declared.Refusal.the-variants.{Length, Range}
 use Rattle.ecc.specs.Half.{codeOf}
+use Rattle.ecc.specs.declared.Code.{Code}
 use Rattle.hamming.specs.Word.{encoded}
 use Rattle.spare.specs.declared.WriteAnswer.{WriteAnswer}
 use Rattle.spare.specs.declared.WriteAnswer.the-variants.{Written, Refused}
@@ -24,8 +25,8 @@ abbrev pub magicAndCount : ℕ → ℕ
 magicAndCount count = 0x56 * 2 ^ 18 + count
 
 -- the sixteen bytes: path word, tag, status FF, count word and second half's code between its bytes, first half's code
-unfoldable pub spareOf : List ℕ → ℕ → ℕ → ℕ → List ℕ
-spareOf bytes tag path count =
+abbrev pub spareWith : Code → Code → ℕ → ℕ → ℕ → List ℕ
+spareWith first second tag path count =
     byteOf 3 (encoded path)
     ∷ byteOf 2 (encoded path)
     ∷ byteOf 1 (encoded path)
@@ -34,15 +35,19 @@ spareOf bytes tag path count =
     ∷ 0xFF
     ∷ byteOf 3 (encoded (magicAndCount count))
     ∷ byteOf 2 (encoded (magicAndCount count))
-    ∷ codeOf (secondHalf bytes) .one
-    ∷ codeOf (secondHalf bytes) .two
-    ∷ codeOf (secondHalf bytes) .three
+    ∷ second .one
+    ∷ second .two
+    ∷ second .three
     ∷ byteOf 1 (encoded (magicAndCount count))
     ∷ byteOf 0 (encoded (magicAndCount count))
-    ∷ codeOf (firstHalf bytes) .one
-    ∷ codeOf (firstHalf bytes) .two
-    ∷ codeOf (firstHalf bytes) .three
+    ∷ first .one
+    ∷ first .two
+    ∷ first .three
     ∷ []
+
+-- those of a page, with the codes of its halves
+unfoldable pub spareOf : List ℕ → ℕ → ℕ → ℕ → List ℕ
+spareOf bytes tag path count = spareWith (codeOf (firstHalf bytes)) (codeOf (secondHalf bytes)) tag path count
 
 -- one of the seven tag bytes, a path below 2^26, a count of at most 262,142
 unfoldable pub isWritable : ℕ → ℕ → ℕ → Bool

@@ -3,9 +3,9 @@
 use mathlib.Core.Path.{refl, _∙_, sym}
 use native.Mathlib.Omega.{arith}
 use borrow.Author.Needs.{needs}
+use Rattle.images.proofs.Paging.{put-finished}
 use Rattle.plan.proofs.Asking.{by-same}
 use Rattle.plan.proofs.Imaging.{refused-told, step-told}
-use Rattle.plan.proofs.Paging.{put-finished}
 use Rattle.plan.proofs.page_by.Statement.{statement}
 use Rattle.plan.proofs.page_by.Tie as tie
 

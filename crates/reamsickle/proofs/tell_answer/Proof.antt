@@ -5,6 +5,7 @@ use Prim.Native.Nat.{ℕ, _+_, _*_, _≤_}
 use native.Mathlib.Nat.{add-zero}
 use native.Mathlib.Omega.{arith}
 use Rattle.bbt.specs.declared.PlanAnswer.{PlanAnswer}
+use Rattle.packing.proofs.Steps.{into-room}
 use Rattle.reamsickle.specs.LargeBoundary.{roomOf}
 use borrow.Author.Needs.{needs}
 use Rattle.reamsickle.proofs.tell_answer.Statement.{statement}
@@ -19,10 +20,8 @@ refusal-code-requires c κs = search needs
 enum-known-answer-2 : tie.Need-enum-known-answer-2
 enum-known-answer-2 c = search needs
 
-put-steps-requires : tie.Need-put-steps-requires
-put-steps-requires c κs =
-    let pre = c .before .before .before .before .before .pre in
-    omega (arith, subst (λ (a : PlanAnswer). roomOf a ≤ 64) (c .before .before .answer2 .given .1) (pre .0), pre .1)
+put-plan-requires : tie.Need-put-plan-requires
+put-plan-requires c κs = search needs
 
 cast-result : tie.Need-cast-result
 cast-result c = search needs
@@ -53,9 +52,11 @@ same-length c = search needs
 
 returns-2 : tie.Need-returns-2
 returns-2 c =
-    let a = c .before .before .before .before .before .before .answer2 .given .1 in
-    let version = c .before .before .before .before .before .before .answer2 .given .0 .0 .version in
-    (simp a (add-zero _ ∙ ap (λ (n : ℕ). 256 * version + 65536 * n) (c .step-count .ensures)), simp a (c .before .before .before .put-steps .ensures))
+    let told = c .before .before .before .before .before .before .answer2 .given in
+    let start = c .before .before .before .before .before .before .before .before .before in
+    let fits = subst (λ (a : PlanAnswer). roomOf a ≤ 64) (told .1) (start .pre .0) in
+    let put = c .before .before .before .put-plan .ensures ∙ into-room (told .0 .0) (start .args .steps .now) (omega (arith, fits, start .pre .1)) in
+    (simp (told .1) (add-zero _ ∙ ap (λ (n : ℕ). 256 * told .0 .0 .version + 65536 * n) (c .step-count .ensures)), simp (told .1) put)
 
 pub tell-answer-spec : {M : Type 1} → statement M
 tell-answer-spec =
@@ -64,7 +65,7 @@ tell-answer-spec =
     enum-known-answer
     refusal-code-requires
     enum-known-answer-2
-    put-steps-requires
+    put-plan-requires
     cast-result
     mul-result
     step-count-requires
