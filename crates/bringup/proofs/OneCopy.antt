@@ -53,7 +53,7 @@ module _ {chip : LargeChip} (ok : Judged chip) (s : Region chip) (k : Kind) (b :
       go none e = no-target (answered ∙ rw e) (bad-elsewhere e)
       go (some m) e =
           let f = target-is ok s (b ∷ []) m e in
-          written m (answered ∙ rw e) (record { in-region = f .below; not-bad = f .fit }) (member-apart m b [] (f .off) .0)
+          written m (answered ∙ rw e) (f .below) (member-apart m b [] (f .off) .0) (f .fit)
 
   -- ---- where it is a plan, the region holds the table
   module _ (q : Plan) (made : answer for-recovery (snapshot s) ≡ plan q) where

@@ -48,7 +48,7 @@ module _ {chip : LargeChip} where
     pub no-reading : reading chip (view r) ≡ refused NoCopy
     pub no-recovery : answer for-recovery (snapshot r) ≡ refuse NoCopy
 
-  -- a block for a copy: of the region, and not readable as bad
+  -- a block for the primary: of the region, and not readable as bad
   pub record Fit (r : Region chip) (b : ℕ) : Type 0 where
     pub in-region : b < chip .region
     pub not-bad : readsBad (view r) b ≡ false
@@ -85,9 +85,9 @@ module _ {chip : LargeChip} where
     none-yet : ¬ Stands s b t → NoTables s → Found s b t
     primary-alone : Stands s b t → OneCopy s Primary b t → Found s b t
 
-  -- what a recovery then answers: the other kind is written to another block that is fit; or 11, where every other block of the region is readable as bad
+  -- what a recovery then answers: the other kind is written to another block of the region, one not readable as bad; or 11, where every other is
   pub data Recovery (s : Region chip) (k : Kind) (b : ℕ) (t : Table) : Type 0 where
-    written : (m : ℕ) → answer for-recovery (snapshot s) ≡ plan (fresh (single (otherKind k) m b t)) → Fit s m → m ≢ b → Recovery s k b t
+    written : (m : ℕ) → answer for-recovery (snapshot s) ≡ plan (fresh (single (otherKind k) m b t)) → m < chip .region → m ≢ b → readsBad (view s) m ≡ false → Recovery s k b t
     no-target : answer for-recovery (snapshot s) ≡ refuse NoTarget → ((c : ℕ) → c < chip .region → c ≢ b → readsBad (view s) c ≡ true) → Recovery s k b t
 
 -- ---- the claims
