@@ -87,7 +87,8 @@ module _ {chip : LargeChip} where
 
   -- what a recovery then answers: the other kind is written to another block of the region, one not readable as bad; or 11, where every other is
   pub data Recovery (s : Region chip) (k : Kind) (b : ℕ) (t : Table) : Type 0 where
-    written : (m : ℕ) → answer for-recovery (snapshot s) ≡ plan (fresh (single (otherKind k) m b t)) → m < chip .region → m ≢ b → readsBad (view s) m ≡ false → Recovery s k b t
+    written : (m : ℕ) → answer for-recovery (snapshot s) ≡ plan (fresh (single (otherKind k) m b t)) → m < chip .region → m ≢ b → readsBad (view s) m ≡ false
+        → Recovery s k b t
     no-target : answer for-recovery (snapshot s) ≡ refuse NoTarget → ((c : ℕ) → c < chip .region → c ≢ b → readsBad (view s) c ≡ true) → Recovery s k b t
 
 -- ---- the claims

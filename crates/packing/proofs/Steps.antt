@@ -77,6 +77,9 @@ unfolding retiredFirst
 first-apart chip Nothing es = refl
 first-apart chip (Block b) es = refl
 
+count-apart : (q : Plan) → length (toldSteps q) ≡ length (retiredFirst (q .chip) (q .retired) []) + length (stepsBy (q .chip) (q .shape))
+count-apart q = ap length (first-apart (q .chip) (q .retired) (stepsBy (q .chip) (q .shape))) ∙ length-append (retiredFirst (q .chip) (q .retired) []) _
+
 plan-append : (xs ys : List Step) → planBytes (xs ++ ys) ≡ planBytes xs ++ planBytes ys
 unfolding planBytes
 plan-append [] ys = refl
@@ -101,18 +104,13 @@ unfolding retiredFirst
 zero-room chip b n e h = subst (λ (r : Retired). 4 * length (retiredFirst chip r []) ≤ n) e h
 
 pub room-first : (q : Plan) (n : ℕ) → 4 * length (toldSteps q) ≤ n → 4 * length (retiredFirst (q .chip) (q .retired) []) ≤ n
-room-first q n h =
-    let xs = retiredFirst (q .chip) (q .retired) [] in
-    let es = stepsBy (q .chip) (q .shape) in
-    omega (arith, ap length (first-apart (q .chip) (q .retired) es) ∙ length-append xs es)
+room-first q n h = omega (arith, count-apart q)
 
 pub room-behind : (q : Plan) (room l : List ℕ) (at : ℕ) → 4 * length (toldSteps q) ≤ length room → length l ≡ length room
     → at ≡ 4 * length (retiredFirst (q .chip) (q .retired) [])
     → (at ≤ length l) × (4 * length (stepsBy (q .chip) (q .shape)) ≤ length (midOf at (length l - at) l))
 room-behind q room l at h e a =
-    let xs = retiredFirst (q .chip) (q .retired) [] in
-    let es = stepsBy (q .chip) (q .shape) in
-    let long : length (toldSteps q) ≡ length xs + length es = ap length (first-apart (q .chip) (q .retired) es) ∙ length-append xs es in
+    let count = count-apart q in
     let inside : at ≤ length l = omega arith in
     (inside, omega (arith, mid-len at (length l) l (omega arith)))
 

@@ -20,7 +20,7 @@ use Rattle.spare.specs.Writing.{firstHalf, secondHalf}
 use Rattle.spare.proofs.ReadBack.{spare-reads-back}
 use Rattle.page.specs.declared.PageAnswer.{PageAnswer}
 use Rattle.page.specs.declared.PageAnswer.the-variants.{Refused}
-use Rattle.page.specs.Claims.{Page, written, flipped, Flips, none, one, two, RealFlips, withFlips, flipVerdict, flipRepairs, fieldsOf, unlessTwo, flipAnswer, flipData, Reading, ReadsBack}
+use Rattle.page.specs.Claims.{Page, written, flipped, Flips, none, one, two, RealFlips, withFlips, flipVerdict, flipRepairs, unlessTwo, flipAnswer, flipData, Reading, ReadsBack}
 use Rattle.page.specs.Pages.{isRepairable, byVerdicts, dataBy}
 use Rattle.page.proofs.TwoHalves.{keptWith, flipsIn, start, page-second, page-both, page-length, page-read}
 

@@ -79,7 +79,7 @@ module _ {bytes : List ℕ} {tag path count : ℕ} (w : Writable bytes tag path 
         secondWhole = simp length-drop (omega arith);
       }
 
-  pub page-written : written bytes tag path count ≡ page start
+  page-written : written bytes tag path count ≡ page start
   unfolding page spareOf
   page-written = ap (λ (l : List ℕ). record { bytes = l; spare = spareOf bytes tag path count }) (sym (take-append-drop 256 bytes))
 
@@ -87,7 +87,7 @@ module _ {bytes : List ℕ} {tag path count : ℕ} (w : Writable bytes tag path 
   -- of a code bit: one of three stored bytes holds it
   page-code : (h : Half) (j : ℕ) (ks : Halves) (t u : Bool) → ltb j 8 ≡ t → ltb j 16 ≡ u
       → flipped h (codeAt j) (page ks) ≡ page (flipsIn h (one (codeAt j)) ks)
-  unfolding page spareOf flipCode
+  unfolding page flipCode
   page-code First j ks true u e f = rw e
   page-code First j ks false true e f = rw (e, f)
   page-code First j ks false false e f = rw (e, f)

@@ -54,7 +54,7 @@ returns-2 c =
     let put = c .before .before .copy .ensures ∙ ap (λ (x : List ℕ). copied x (midOf 0 4 (a .steps .now))) four in
     let retired = c .before .before .before .before .before .before .before .before .retired .given .1 in
     let room = zero-room (a .chip) _ _ retired (c .before .before .before .before .before .before .before .before .before .before .before .pre) in
-    zero-put (a .chip) _ (a .steps .now) _ room (c .before .before .before .before .before .before .before .before .retired .given .1) put
+    zero-put (a .chip) _ (a .steps .now) _ room retired put
 
 pub put-zero-spec : {M : Type 1} → statement M
 put-zero-spec =
