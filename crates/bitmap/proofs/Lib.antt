@@ -1,3 +1,2 @@
 pub mod Rule
 pub mod Into
-pub mod First

@@ -10,9 +10,9 @@ use Rattle.bbt.specs.Plans.{Call}
 use Rattle.bbt.specs.Told.{toldSteps}
 use Rattle.bbt.specs.declared.PlanAnswer.{PlanAnswer}
 use Rattle.bbt.specs.declared.PlanAnswer.the-variants.{Planned, Refused as NotPlanned}
-use Rattle.bitmap.specs.Made.{firstAnswer}
-use Rattle.bitmap.specs.declared.BitmapAnswer.{BitmapAnswer}
-use Rattle.bitmap.specs.declared.BitmapAnswer.the-variants.{Made, Refused as NotMade}
+use Rattle.factory.specs.FirstBitmap.{firstAnswer}
+use Rattle.factory.specs.declared.BitmapAnswer.{BitmapAnswer}
+use Rattle.factory.specs.declared.BitmapAnswer.the-variants.{Made, Refused as NotMade}
 use Rattle.bringup.specs.TablePages.{tablePageAnswer}
 use Rattle.chip.specs.Large.{chipOf}
 use Rattle.chip.specs.declared.Refusal.the-variants.{Length}

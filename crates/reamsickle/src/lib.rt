@@ -3,7 +3,7 @@ ghost use mathlib.Core.Path.{_≡_};
 ghost use Prim.Native.Nat.{_≤_};
 ghost use lib.ListN.{length};
 ghost use Rattle.bbt.specs.Plans.{for-update, for-recovery};
-ghost use Rattle.bitmap.specs.Made.{firstAfter};
+ghost use Rattle.factory.specs.FirstBitmap.{firstAfter};
 ghost use Rattle.boot.specs.Answers.{listAfter};
 ghost use Rattle.bringup.specs.TablePages.{tablePageAfter};
 ghost use Rattle.plan.specs.Answers.{planAnswer};
@@ -13,13 +13,13 @@ ghost use Rattle.reamsickle.specs.LargeBoundary.{firstCode, tableCode, p
 ghost use Rattle.region.specs.Tables.{tableAfter};
 ghost use Rattle.spare.specs.Writing.{spareAfter};
 use bbt::PlanAnswer;
-use bitmap::BitmapAnswer;
 use boot::Listing;
 use boot::MapAnswer;
 use chip::ChipAnswer;
 use chip::LargeChip;
 use chip::Refusal;
 use chip::SmallChip;
+use factory::BitmapAnswer;
 use images::ImageAnswer;
 use page::PageAnswer;
 use region::TableAnswer;
@@ -142,7 +142,7 @@ pub extern "C" fn ream_first_bitmap(n: u64, size: u64, marks: &[u8], bitmap: &mu
     ensures answer { λ r. ⌜ r ≡ firstCode n size (now (marks .entry)) (now (bitmap .entry)) ⌝ }
     ensures out { λ _. ⌜ now (bitmap .exit) ≡ firstAfter n size (now (marks .entry)) (now (bitmap .entry)) ⌝ }
 {
-    match bitmap::first_bitmap(n, size, marks, bitmap) {
+    match factory::first_bitmap(n, size, marks, bitmap) {
         BitmapAnswer::Made => ANSWERED,
         BitmapAnswer::Refused(r) => packing::refusal_code(r),
     }

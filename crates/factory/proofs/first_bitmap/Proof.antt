@@ -1,9 +1,9 @@
 -- `first_bitmap` meets its contract: the chip or its refusal, and then what `made` answers.
 -- Assumes nothing.
-use Rattle.bitmap.proofs.First.{refused-first, made-first}
+use Rattle.factory.proofs.First.{refused-first, made-first}
 use borrow.Author.Needs.{needs}
-use Rattle.bitmap.proofs.first_bitmap.Statement.{statement}
-use Rattle.bitmap.proofs.first_bitmap.Tie as tie
+use Rattle.factory.proofs.first_bitmap.Statement.{statement}
+use Rattle.factory.proofs.first_bitmap.Tie as tie
 
 new-requires : tie.Need-new-requires
 new-requires c κs = search needs

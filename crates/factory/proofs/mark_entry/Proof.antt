@@ -2,8 +2,8 @@
 -- Assumes nothing.
 use borrow.Author.Needs.{needs}
 use borrow.Author.Tests.{eq-eqb, ne-eqb}
-use Rattle.bitmap.proofs.mark_entry.Statement.{statement}
-use Rattle.bitmap.proofs.mark_entry.Tie as tie
+use Rattle.factory.proofs.mark_entry.Statement.{statement}
+use Rattle.factory.proofs.mark_entry.Tie as tie
 
 returns : tie.Need-returns
 returns c = (simp (eq-eqb _ 0 (c .if1 .taken)), search needs)

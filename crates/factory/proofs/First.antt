@@ -11,9 +11,9 @@ use Rattle.chip.specs.declared.Refusal.{Refusal}
 use Rattle.chip.specs.declared.Refusal.the-variants.{Length}
 use Rattle.bbt.proofs.Raw.{chip-valid}
 use Rattle.bbt.specs.Entries.{firstBitmap}
-use Rattle.bitmap.specs.declared.BitmapAnswer.{BitmapAnswer}
-use Rattle.bitmap.specs.declared.BitmapAnswer.the-variants as answer
-use Rattle.bitmap.specs.Made.{marksLent, firstAnswer, firstBy, firstAfter}
+use Rattle.factory.specs.declared.BitmapAnswer.{BitmapAnswer}
+use Rattle.factory.specs.declared.BitmapAnswer.the-variants as answer
+use Rattle.factory.specs.FirstBitmap.{marksLent, firstAnswer, firstBy, firstAfter}
 
 module _ (n size : ℕ) (marks room : List ℕ) where
   pub refused-first : (r : Refusal) → chipOf n size ≡ Refused r → (answer.Refused r ≡ firstAnswer n size marks room) × (room ≡ firstAfter n size marks room)

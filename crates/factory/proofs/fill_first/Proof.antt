@@ -7,8 +7,8 @@ use borrow.Author.Needs.{needs}
 use lib.ListN.{length, length-set}
 use Rattle.bits.proofs.Filling.{filled, fill-start, fill-turn, fill-end}
 use Rattle.bbt.specs.Entries.{firstByte}
-use Rattle.bitmap.proofs.fill_first.Statement.{statement}
-use Rattle.bitmap.proofs.fill_first.Tie as tie
+use Rattle.factory.proofs.fill_first.Statement.{statement}
+use Rattle.factory.proofs.fill_first.Tie as tie
 
 abbrev Inv-loop : tie.InvT-loop
 Inv-loop marks bitmap₀ i₀ bitmap i = (i ≤ length bitmap₀) × (length bitmap ≡ length bitmap₀) × (bitmap ≡ filled (firstByte marks) i bitmap₀)

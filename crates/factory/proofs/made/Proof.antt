@@ -2,10 +2,10 @@
 -- Assumes nothing.
 use mathlib.Core.Path.{refl, _∙_, sym}
 use borrow.Author.Tests.{eq-eqb, ne-eqb}
-use Rattle.bitmap.specs.Made.{marksLent}
+use Rattle.factory.specs.FirstBitmap.{marksLent}
 use borrow.Author.Needs.{needs}
-use Rattle.bitmap.proofs.made.Statement.{statement}
-use Rattle.bitmap.proofs.made.Tie as tie
+use Rattle.factory.proofs.made.Statement.{statement}
+use Rattle.factory.proofs.made.Tie as tie
 
 cast-if1 : tie.Need-cast-if1
 cast-if1 c = search needs
