@@ -53,8 +53,8 @@
  *   in the same order, REAM_READ_WELL or REAM_UNREADABLE: size * P bytes. An unreadable page's bytes may be
  *   anything, but the OOB of a block's first page is lent as the chip gives it, even then: it can say that the
  *   block is bad. ream_image_size() and ream_status_size() give the sizes for an N and a size,
- *   ream_table_pages() and ream_bitmap_size() for an N; ream_region_fits() tells whether the entries take an N
- *   and a size.
+ *   ream_table_pages(), ream_marks_size() and ream_bitmap_size() for an N; ream_region_fits() tells whether the
+ *   entries take an N and a size.
  *
  *   A block is a good primary (a good mirror) if its P pages all read well, with that signature and with one
  *   version. It is readable as bad if its first page reads well, has neither signature, and OOB byte 0 is 0, or
@@ -149,7 +149,7 @@
  *
  *	1  read the region; where ream_recovery_plan() does not refuse it with REAM_NO_COPY, go on at 6
  *	2  choose a block of the region that is not readable as bad: the highest, so that it is the same each time
- *	3  make the bitmap with ream_first_bitmap(), FF for the mark of the chosen block; choose a version
+ *	3  make the bitmap with ream_first_bitmap(), FF for both marks of the chosen block; choose a version
  *	4  erase the block; for page 0 to P - 1 ask ream_table_page() for the primary's page, and write it there
  *	5  if power was cut, start again at 1; if a step failed, do a zero step on its block and start again at 1
  *	6  read the region, plan a recovery and carry it out: it writes the mirror
@@ -159,7 +159,11 @@
  *   there on all that is said above of a settled pair holds: a recovery, carried out, settles on that bitmap with
  *   that version; only where every other block of the region is readable as bad is it refused, with REAM_NO_TARGET.
  *   A block is certainly not readable as bad if OOB byte 0 of its first page is not 0. Once the recipe has touched
- *   a block, that byte is not the factory's mark any more: hence FF in line 3.
+ *   a block, that byte and the second page's are not the factory's marks any more: hence FF in line 3.
+ *
+ *   Whether a block is readable as bad shows on its first page alone. A block of the region that the factory has marked
+ *   on its second page alone is not, so the recipe and later plans may put a copy there. A driver that is to keep it
+ *   out does a zero step on it before it begins.
  *
  * How to call
  *
@@ -233,8 +237,8 @@ typedef char ream_needs_a_host_with_64_bits[sizeof(size_t) == 8 ? 1 : -1];
  * The library's own version, as text and as a number to compare: 10,000 * major + 100 * minor + patch.
  * (ream_version() gives that of a table or a plan.)
  */
-#define REAM_LIBRARY_VERSION "3.2"
-#define REAM_LIBRARY_VERSION_NUMBER 30200
+#define REAM_LIBRARY_VERSION "4.0"
+#define REAM_LIBRARY_VERSION_NUMBER 40000
 
 /* The refusals. */
 enum ream_refusal_number {
@@ -341,6 +345,7 @@ enum ream_large_size {
 	REAM_BLOCKS_MAX = 32768,	/* the largest N, and with it and the largest region: */
 	REAM_IMAGE_SIZE_MAX = 59136,
 	REAM_STATUS_SIZE_MAX = 28,
+	REAM_MARKS_SIZE_MAX = 65536,
 	REAM_BITMAP_SIZE_MAX = 8192,
 };
 
@@ -461,9 +466,14 @@ uint64_t ream_boot_map(uint64_t number, const uint8_t *spares, size_t spares_len
  *
  *	n	the number of blocks, N
  *	size	the number of region blocks; it is judged, and changes nothing else here
- *	marks	N bytes: OOB byte 0 of the first page of each block, block 0 first
- *	bitmap	N/4 bytes, out: REAM_ENTRY_FACTORY where the mark is 0, REAM_ENTRY_GOOD where it is any
+ *	marks	2N bytes: of each block, block 0 first, OOB byte 0 of its first page and then OOB byte 0 of its
+ *		second page, so that bytes 2b and 2b + 1 are block b's
+ *	bitmap	N/4 bytes, out: REAM_ENTRY_FACTORY where either mark is 0, REAM_ENTRY_GOOD where both are any
  *		other byte
+ *
+ * A factory marks a bad block on its first or on its second page. The marks of first pages alone, N bytes, which were
+ * right before 4.0, are refused with REAM_LENGTH. A mark is lent as the chip gives it, even where its page does not
+ * read well.
  *
  * Refuses, in this order: REAM_RANGE (n or size); REAM_LENGTH. marks is never changed.
  */
@@ -786,7 +796,7 @@ static inline int ream_region_fits(uint64_t n, uint64_t size)
 
 /*
  * The bytes of the buffers that the entries take for a chip of n blocks with a region of size blocks; 0 where
- * these are refused. A bitmap's depend on n alone.
+ * these are refused. Those of marks and of a bitmap depend on n alone.
  */
 static inline size_t ream_image_size(uint64_t n, uint64_t size)
 {
@@ -796,6 +806,11 @@ static inline size_t ream_image_size(uint64_t n, uint64_t size)
 static inline size_t ream_status_size(uint64_t n, uint64_t size)
 {
 	return ream_region_fits(n, size) ? (size_t)size * ream_table_pages(n) : 0;
+}
+
+static inline size_t ream_marks_size(uint64_t n)
+{
+	return ream_table_pages(n) == 0 ? 0 : (size_t)(2 * n);
 }
 
 static inline size_t ream_bitmap_size(uint64_t n)

@@ -78,8 +78,8 @@ struct bench {
 	uint8_t same[REGIONS][MOST_BITMAP];		/* the table in it */
 	uint8_t wanted[REGIONS][MOST_BITMAP];		/* the same with one entry changed */
 	uint8_t tables[REGIONS][MOST_BITMAP];		/* those in the regions, lent alone */
-	uint8_t factory[REGIONS][MOST_BLOCKS];		/* marks as prepared */
-	uint8_t marks[REGIONS][MOST_BLOCKS];		/* lent */
+	uint8_t factory[REGIONS][2 * MOST_BLOCKS];	/* marks as prepared */
+	uint8_t marks[REGIONS][2 * MOST_BLOCKS];	/* lent */
 	size_t failed;					/* how many steps of each plan failed */
 	uint8_t bitmap[MOST_BITMAP];
 	uint8_t steps[64];

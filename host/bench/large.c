@@ -93,8 +93,8 @@ static unsigned round_first_bitmap(struct bench *bench, const struct implementat
 	unsigned refusals = 0;
 
 	for (unsigned i = 0; i < REGIONS; i++)
-		refusals |= ream_refusal(by->first_bitmap(bench->n, bench->size, bench->marks[i], (size_t)bench->n,
-							  bench->bitmap, bench->bitmap_len));
+		refusals |= ream_refusal(by->first_bitmap(bench->n, bench->size, bench->marks[i],
+							  ream_marks_size(bench->n), bench->bitmap, bench->bitmap_len));
 	return refusals;
 }
 
@@ -272,12 +272,12 @@ static void prepare_regions(struct bench *bench, uint64_t n, unsigned size, uint
 		const uint64_t changed = draw_below(&state, n);
 
 		memset(bench->same[i], 0xFF, bench->bitmap_len);
-		memset(bench->factory[i], 0xFF, (size_t)n);
+		memset(bench->factory[i], 0xFF, ream_marks_size(n));
 		for (uint64_t k = 0; k < n / 160; k++) {
 			const uint64_t bad = draw_below(&state, n);
 
 			ream_entry_set(bench->same[i], bad, (unsigned)draw_below(&state, 3));
-			bench->factory[i][bad] = 0;
+			bench->factory[i][2 * bad + draw_below(&state, 2)] = 0;
 		}
 		ream_entry_set(bench->same[i], changed, REAM_ENTRY_GOOD);
 		memcpy(bench->wanted[i], bench->same[i], bench->bitmap_len);

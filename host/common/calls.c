@@ -76,7 +76,7 @@ const struct entry entries[ENTRIES] = {
 	},
 	[FIRST_BITMAP] = {
 		"ream_first_bitmap", 2, { "n", "size" },
-		2, { { "marks", 1, BLOCK_OF_CHIP, IN }, { "bitmap", 1, BYTE_OF_BITMAP, OUT } },
+		2, { { "marks", 2, BLOCK_OF_CHIP, IN }, { "bitmap", 1, BYTE_OF_BITMAP, OUT } },
 		library_first_bitmap, reference_first_bitmap,
 	},
 	[TABLE_READ] = {

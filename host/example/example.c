@@ -112,6 +112,7 @@ static int boot_blocks(void)
 enum {
 	BLOCKS = 1024,
 	REGION = REAM_REGION_BLOCKS_MIN,
+	MARKS = 2 * BLOCKS,
 	BITMAP_SIZE = BLOCKS / 4,
 	PAGES = 1,
 	REGION_PAGES = REGION * PAGES,
@@ -325,7 +326,7 @@ static uint64_t write_primary(struct chip *chip, unsigned block, const uint8_t b
 }
 
 /* Lines 2 to 5, once: the block, the bitmap, the primary, and a zero step where a step failed. */
-static uint64_t try_primary(struct chip *chip, uint8_t marks[BLOCKS])
+static uint64_t try_primary(struct chip *chip, uint8_t marks[MARKS])
 {
 	const unsigned block = block_for_primary(chip);
 	uint8_t bitmap[BITMAP_SIZE];
@@ -334,8 +335,8 @@ static uint64_t try_primary(struct chip *chip, uint8_t marks[BLOCKS])
 
 	if (block == 0)
 		return REAM_NO_TARGET;
-	marks[block] = 0xFF;
-	answer = ream_first_bitmap(BLOCKS, REGION, marks, BLOCKS, bitmap, sizeof(bitmap));
+	marks[2 * block] = marks[2 * block + 1] = 0xFF;
+	answer = ream_first_bitmap(BLOCKS, REGION, marks, MARKS, bitmap, sizeof(bitmap));
 	if (ream_ok(answer))
 		answer = write_primary(chip, block, bitmap, &done);
 	if (ream_ok(answer) && !done)
@@ -343,9 +344,9 @@ static uint64_t try_primary(struct chip *chip, uint8_t marks[BLOCKS])
 	return answer;
 }
 
-/* Makes the first pair from the marks, OOB byte 0 of the first page of each block. After a power cut it is called
- * again. Gives the refusal that ended it, or REAM_OK. */
-static unsigned make_first_pair(struct chip *chip, uint8_t marks[BLOCKS])
+/* Makes the first pair from the marks, OOB byte 0 of the first and of the second page of each block. After a power cut
+ * it is called again. Gives the refusal that ended it, or REAM_OK. */
+static unsigned make_first_pair(struct chip *chip, uint8_t marks[MARKS])
 {
 	struct plan plan;
 	uint64_t answer = REAM_OK;
@@ -364,15 +365,17 @@ static unsigned make_first_pair(struct chip *chip, uint8_t marks[BLOCKS])
 static int large_chip(void)
 {
 	struct chip chip = { .worn = 0 };
-	uint8_t marks[BLOCKS], bitmap[BITMAP_SIZE];
+	uint8_t marks[MARKS], bitmap[BITMAP_SIZE];
 
-	/* A chip without tables, of which the factory marked block 3. The primary and then the mirror are written. */
+	/* A chip without tables, of which the factory marked block 3 on its first page and block 7 on its second. The
+	 * primary and then the mirror are written. */
 	memset(chip.region.image, 0xFF, sizeof(chip.region.image));
 	memset(chip.region.status, REAM_READ_WELL, sizeof(chip.region.status));
 	memset(marks, 0xFF, sizeof(marks));
-	marks[3] = 0;
-	printf("first pair, block 3 marked by the factory:\n");
-	if (make_first_pair(&chip, marks) != REAM_OK || read_table(&chip, bitmap, 3) != REAM_OK)
+	marks[2 * 3] = 0;
+	marks[2 * 7 + 1] = 0;
+	printf("first pair, blocks 3 and 7 marked by the factory:\n");
+	if (make_first_pair(&chip, marks) != REAM_OK || read_table(&chip, bitmap, 7) != REAM_OK)
 		return EXIT_FAILURE;
 
 	/* Block 17 went bad in use: the table read, with that entry set, is the one wanted. */

@@ -29,16 +29,23 @@ void dump_options(struct syntax *syntax, struct shape *shape)
 	args_add(syntax, (struct argument){ .name = "unreadable", .texts = &shape->unreadable });
 }
 
+bool dump_region_fits(const struct chip *chip)
+{
+	const bool fits = ream_region_fits(chip->blocks, chip->region_blocks);
+
+	if (!fits)
+		complain("--region-blocks %" PRIu64 ": expected at most %u, half of the chip's %" PRIu64
+			 " blocks (" REFUSED_RANGE ")",
+			 chip->region_blocks, region_largest(chip->blocks), chip->blocks);
+	return fits;
+}
+
 bool dump_fits(const struct chip *chip)
 {
 	const unsigned pages = ream_table_pages(chip->blocks);
 
-	if (!ream_region_fits(chip->blocks, chip->region_blocks)) {
-		complain("--region-blocks %" PRIu64 ": expected at most %u, half of the chip's %" PRIu64
-			 " blocks (" REFUSED_RANGE ")",
-			 chip->region_blocks, region_largest(chip->blocks), chip->blocks);
+	if (!dump_region_fits(chip))
 		return false;
-	}
 	if (chip->pages_per_block < pages)
 		complain("--pages-per-block %" PRIu64 ": expected at least %u, the pages of a table of %" PRIu64
 			 " blocks",
@@ -239,30 +246,49 @@ static void print_what(const struct dump *dump)
 	printf("; a copy of the table fills %u page%s\n", region->pages, plural(region->pages));
 }
 
+/* The numbers that a dump is read with. */
+static struct chip chip_of(const struct dump *dump)
+{
+	return (struct chip){ dump->region.n, dump->region.size, dump->pages_per_block };
+}
+
+void dump_print_region(const struct chip *chip, bool region_told)
+{
+	printf("region: the last %s blocks, %" PRIu64 "-%" PRIu64 " (%s)\n", size_word(chip->region_blocks),
+	       chip->blocks - chip->region_blocks, chip->blocks - 1, number_from(region_told));
+}
+
 void dump_print(const struct dump *dump)
 {
 	const struct region *region = &dump->region;
+	const struct chip chip = chip_of(dump);
 	const unsigned counting = (unsigned)region_status_len(region);
 
 	printf("chip: %" PRIu64 " blocks (%s), %" PRIu64 " page%s a block (%s)\n", region->n,
 	       blocks_from(dump), dump->pages_per_block, plural(dump->pages_per_block),
 	       number_from(dump->pages_told));
 	print_what(dump);
-	printf("region: the last %s blocks, %" PRIu64 "-%" PRIu64 " (%s)\n", size_word(region->size),
-	       region_first(region), region->n - 1, number_from(dump->region_told));
+	dump_print_region(&chip, dump->region_told);
 	if (dump->status_told)
 		printf("pages: of the %u that count %u unreadable (told)\n", counting, status_count(region));
 	else
 		printf("pages: all %u that count read well (assumed)\n", counting);
 }
 
+void dump_write_blocks(struct json *json, const struct chip *chip, bool blocks_told, bool region_told)
+{
+	json_number(json, "blocks", chip->blocks);
+	json_truth(json, "blocks_told", blocks_told);
+	json_number(json, "region_blocks", chip->region_blocks);
+	json_truth(json, "region_blocks_told", region_told);
+}
+
 void dump_write(struct json *json, const struct dump *dump)
 {
+	const struct chip chip = chip_of(dump);
+
 	json_object(json, "chip");
-	json_number(json, "blocks", dump->region.n);
-	json_truth(json, "blocks_told", dump->blocks_told);
-	json_number(json, "region_blocks", dump->region.size);
-	json_truth(json, "region_blocks_told", dump->region_told);
+	dump_write_blocks(json, &chip, dump->blocks_told, dump->region_told);
 	json_number(json, "pages_per_block", dump->pages_per_block);
 	json_truth(json, "pages_per_block_told", dump->pages_told);
 	json_number(json, "table_pages", dump->region.pages);

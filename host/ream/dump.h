@@ -75,6 +75,9 @@ void dump_chip_options(struct syntax *syntax, struct chip *chip);
  * table? */
 bool dump_fits(const struct chip *chip);
 
+/* The first of these alone, which does not ask for the pages of a block. */
+bool dump_region_fits(const struct chip *chip);
+
 /* Reads what counts of a dump, and leaves it open; where that fails it is closed. */
 bool dump_read(struct dump *dump, const char *path, const struct shape *shape);
 
@@ -82,6 +85,10 @@ void dump_close(struct dump *dump);
 
 /* Where a page of a block of the region starts in the dump. */
 uint64_t dump_offset(const struct dump *dump, unsigned block, unsigned page);
+
+/* Tells the region of a chip, and the numbers of blocks of both; those that are not told are assumed. */
+void dump_print_region(const struct chip *chip, bool region_told);
+void dump_write_blocks(struct json *json, const struct chip *chip, bool blocks_told, bool region_told);
 
 /* Tells the chip and the dump, and what of it is assumed. */
 void dump_print(const struct dump *dump);

@@ -29,8 +29,9 @@ static const char help[] =
 	"two blocks are left for a pair, no plan is made, and it exits with 1.\n"
 	"\n"
 	"  --bitmap FILE         the table, N/4 bytes, two bits for each block; if not\n"
-	"                        told, the blocks that are marked in the dump, of the\n"
-	"                        whole chip then, are factory, and all others good\n"
+	"                        told, the blocks that are marked on their first or\n"
+	"                        second page in the dump, of the whole chip then, are\n"
+	"                        factory, and all others good\n"
 	"  --version V           of both tables, 0 to 255; 1 if not told\n"
 	"  --block B             the chip block of the primary; if not told the highest\n"
 	"                        of the region that is not readable as bad\n"
@@ -336,7 +337,7 @@ static enum exit_status init(struct job *job)
 	if (highest(region) == region->size)
 		return tell_refused(job);
 	job->first.block = job->block == NO_BLOCK ? highest(region) : (unsigned)(job->block - region_first(region));
-	if (!bitmap_take(bitmap, job->bitmap, &job->dump, region_first(region) + job->first.block))
+	if (!bitmap_take(bitmap, job->bitmap, &job->dump, region_first(region) + job->first.block, &job->notes))
 		return EXIT_WRONG;
 	job->first.bitmap = bitmap;
 	job->first.version = job->version == NO_VERSION ? FIRST_VERSION : (unsigned)job->version;

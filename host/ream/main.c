@@ -16,6 +16,7 @@ static const char help[] =
 	"library.\n"
 	"\n"
 	"  pair      reads the pair of bad-block tables in a dump of the large chip\n"
+	"  first     makes a new chip's first bitmap by the marks of the factory\n"
 	"  init      plans a chip's first pair of tables, and can make it on a copy\n"
 	"  update    plans an update of the tables, and can carry it out on a copy\n"
 	"  recover   plans a recovery of the tables, and can do so too\n"
@@ -27,13 +28,14 @@ static const char help[] =
 	"version. Exit status: 0 done, 1 refused by the library, 2 an argument or a file\n"
 	"is wrong.\n";
 
-#define COMMANDS "pair, init, update, recover, page, boot or simulate"
+#define COMMANDS "pair, first, init, update, recover, page, boot or simulate"
 
 static const struct command {
 	const char *name;
 	enum exit_status (*run)(int argc, char **argv);
 } commands[] = {
 	{ "pair", pair_command },
+	{ "first", first_command },
 	{ "init", init_command },
 	{ "update", update_command },
 	{ "recover", recover_command },

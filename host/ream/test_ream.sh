@@ -955,16 +955,21 @@ check "the pages in their names' order are the copy" cmp expected found
 
 # ---- init
 
-new_chip() { # BLOCKS PAGES BAD..: a blank chip without a table, as the file new, with these blocks marked bad
+# A blank chip without a table, as the file new, with these blocks marked bad: 3 on its first page, 3:1 on its second.
+new_chip() { # BLOCKS PAGES BAD..
 	pages=$2
 	ff $(($1 * pages * 2112)) >new
 	shift 2
 	for bad_block; do
-		poke new $((bad_block * pages * 2112 + 2048)) '\000'
+		case $bad_block in
+		*:*) marked_page=${bad_block#*:} ;;
+		*) marked_page=0 ;;
+		esac
+		poke new $(((${bad_block%:*} * pages + marked_page) * 2112 + 2048)) '\000'
 	done
 }
 bitmap_of() { # BLOCKS BAD..: the bitmap with these blocks factory and all others good
-	printf "$(echo "$*" | tr ' ' '\n' | awk 'NR == 1 { blocks = $1; next } { bad[$1] = 1 } END {
+	printf "$(echo "$*" | tr ' ' '\n' | awk -F : 'NR == 1 { blocks = $1; next } { bad[$1] = 1 } END {
 		for (i = 0; i < blocks; i += 4) {
 			byte = 0
 			for (j = i + 3; j >= i; j--)
@@ -983,39 +988,40 @@ put_copy() { # FILE BLOCK PAGES COUNT KIND VERSION: of the table in the file bit
 	done
 }
 
-new_chip 16 1
-expect_none made 0 "init: 4 steps, to version 1" init --pages-per-block 1 new
+of_two="--pages-per-block 2 --region-blocks"
+new_chip 16 2
+expect_none made 0 "init: 4 steps, to version 1" init --pages-per-block 2 new
 plan_is "erase 15 -, write 15 0, erase 14 -, write 14 0"
-says "chip: 16 blocks (by the dump's size), 1 page a block (told)"
+says "chip: 16 blocks (by the dump's size), 2 pages a block (told)"
 says "  block 15: erased"
 says "bitmap: by the marks in the dump"
 says "entries: 16 good, 0 reserved, 0 late, 0 factory"
 says "primary: block 15 (assumed), version 1 (assumed)"
-says "     1  write     15     0  0x000007800"
+says "     1  write     15     0  0x00000f000"
 says_not "pair: "
 cp new new_before
-expect 0 "pair: settled, version 1, primary in block 15, mirror in block 14" init --pages-per-block 1 --apply made new
+expect 0 "pair: settled, version 1, primary in block 15, mirror in block 14" init --pages-per-block 2 --apply made new
 says "dump written: made"
 says_not "cut: "
-{ ff $((14 * 2112)); mirror 001; primary 001; } >expected
+{ ff $((28 * 2112)); mirror 001; blank; primary 001; blank; } >expected
 check "the first pair on a blank chip" cmp expected made
 check "the dump that is read stays as it is" cmp new_before new
-expect 0 "pair: settled, version 1, primary in block 15, mirror in block 14" pair --pages-per-block 1 made
+expect 0 "pair: settled, version 1, primary in block 15, mirror in block 14" pair --pages-per-block 2 made
 expect 0 "pair: settled, version 2, primary in block 15, mirror in block 14" \
-	update --pages-per-block 1 --mark-late 5 --apply made_marked made
+	update --pages-per-block 2 --mark-late 5 --apply made_marked made
 # what it is told, it takes
 for version in 0:000 1:001 255:377; do
-	expect 0 "init: 4 steps, to version ${version%:*}" init --pages-per-block 1 --version ${version%:*} --apply made \
+	expect 0 "init: 4 steps, to version ${version%:*}" init --pages-per-block 2 --version ${version%:*} --apply made \
 		--force new
 	says "version ${version%:*} (told)"
-	{ ff $((14 * 2112)); mirror ${version#*:}; primary ${version#*:}; } >expected
+	{ ff $((28 * 2112)); mirror ${version#*:}; blank; primary ${version#*:}; blank; } >expected
 	check "a version that is told" cmp expected made
 done
 for block in 12:15 13:15 14:15 15:14; do
 	expect 0 "pair: settled, version 1, primary in block ${block%:*}, mirror in block ${block#*:}" \
-		init --pages-per-block 1 --block ${block%:*} --apply made --force new
+		init --pages-per-block 2 --block ${block%:*} --apply made --force new
 	says "primary: block ${block%:*} (told), version 1 (assumed)"
-	expect 0 "primary in block ${block%:*}, mirror in block ${block#*:}" pair --pages-per-block 1 made
+	expect 0 "primary in block ${block%:*}, mirror in block ${block#*:}" pair --pages-per-block 2 made
 done
 
 # blocks that the factory has marked: fewer and fewer are left, and then one, and then none
@@ -1025,26 +1031,26 @@ for size in 4 5 6 7; do
 	while [ $left -ge 0 ]; do
 		high=$((16 - size + left - 1))
 		low=$((high - 1))
-		new_chip 16 1 $marked
+		new_chip 16 2 $marked
 		bitmap_of 16 $marked >bitmap
 		if [ $left -ge 2 ]; then
 			expect 0 "pair: settled, version 1, primary in block $high, mirror in block $low" \
-				init $within $size --apply made --force new
+				init $of_two $size --apply made --force new
 			plan_is "erase $high -, write $high 0, erase $low -, write $low 0"
 			cp new expected
-			put_copy expected $high 1 1 primary 001
-			put_copy expected $low 1 1 mirror 001
+			put_copy expected $high 2 1 primary 001
+			put_copy expected $low 2 1 mirror 001
 			check "a region of $size blocks, of which $left are left" cmp expected made
-			expect 0 "primary in block $high, mirror in block $low" pair $within $size made
+			expect 0 "primary in block $high, mirror in block $low" pair $of_two $size made
 			says "entries: $((15 - size + left)) good, 0 reserved, 0 late, $((1 + size - left)) factory"
 			says "  block 3: factory"
 		elif [ $left -eq 1 ]; then
 			expect_none none 1 "init: refused, 11: there is no block to write a copy to" \
-				init $within $size --apply none --pages none new
+				init $of_two $size --apply none --pages none new
 			says "  every block but $high is readable as bad: the primary would stand alone there"
 		else
 			expect_none none 1 "init: refused, 7: there is no good primary and no good mirror" \
-				init $within $size --apply none --pages none new
+				init $of_two $size --apply none --pages none new
 			says "  every block of the region is readable as bad: there is none for a table"
 		fi
 		marked="$marked $high"
@@ -1053,56 +1059,98 @@ for size in 4 5 6 7; do
 done
 # wherever they are, and however a block is readable as bad
 for bads in "15:14 13" "14:15 13" "13:15 14" "12:15 14" "12 15:14 13" "13 15:14 12" "13 14:15 12"; do
-	new_chip 16 1 ${bads%:*}
+	new_chip 16 2 ${bads%:*}
 	pair=${bads#*:}
-	expect 0 "primary in block ${pair% *}, mirror in block ${pair#* }" init $within 4 --apply made --force new
+	expect 0 "primary in block ${pair% *}, mirror in block ${pair#* }" init $of_two 4 --apply made --force new
 done
-new_chip 16 1
-dd if=/dev/zero of=new bs=1 seek=$((15 * 2112 + 2048)) count=64 conv=notrunc 2>/dev/null
+new_chip 16 2
+dd if=/dev/zero of=new bs=1 seek=$((30 * 2112 + 2048)) count=64 conv=notrunc 2>/dev/null
 for unreadable in "" "--unreadable 15:0"; do
-	expect 0 "primary in block 14, mirror in block 13" init $within 4 $unreadable --apply made --force new
+	expect 0 "primary in block 14, mirror in block 13" init $of_two 4 $unreadable --apply made --force new
 	says "  block 15: bad (retired)"
 	says "  block 15: factory"
 done
 # an unreadable page with another OOB is not, nor is a signature
-poke new $((15 * 2112 + 2111)) '\377'
-expect 0 "primary in block 14, mirror in block 13" init $within 4 --apply made --force new
+poke new $((30 * 2112 + 2111)) '\377'
+expect 0 "primary in block 14, mirror in block 13" init $of_two 4 --apply made --force new
 says "  block 15: factory"
-expect 0 "primary in block 15, mirror in block 14" init $within 4 --unreadable 15:0 --apply made --status-out made_status \
+expect 0 "primary in block 15, mirror in block 14" init $of_two 4 --unreadable 15:0 --apply made --status-out made_status \
 	--force new
 says "entries: 16 good, 0 reserved, 0 late, 0 factory"
 printf '\000\000\000\000' >expected
 check "what is written reads well" cmp expected made_status
-mirror 001 | dd of=new bs=2112 seek=15 conv=notrunc 2>/dev/null
-poke new $((15 * 2112 + 2048)) '\000'
-expect 1 "init: there is a table already" init $within 4 new
-expect 0 "primary in block 15, mirror in block 14" init $within 4 --unreadable 15:0,12:0 --apply made \
+mirror 001 | dd of=new bs=2112 seek=30 conv=notrunc 2>/dev/null
+poke new $((30 * 2112 + 2048)) '\000'
+expect 1 "init: there is a table already" init $of_two 4 new
+expect 0 "primary in block 15, mirror in block 14" init $of_two 4 --unreadable 15:0,12:0 --apply made \
 	--status-out made_status --force new
 printf '\001\000\000\000' >expected
 check "what is not written stays unreadable" cmp expected made_status
 
+# by a mark on the first page, on the second or on both
+new_chip 16 2 0:1 3 5:1 9 9:1
+bitmap_of 16 0 3 5 9 >bitmap
+cp new expected
+put_copy expected 15 2 1 primary 001
+put_copy expected 14 2 1 mirror 001
+expect 0 "pair: settled, version 1, primary in block 15, mirror in block 14" init $of_two 4 --apply made --force new
+says "entries: 12 good, 0 reserved, 0 late, 4 factory"
+check "the first pair of a chip with marks on first and second pages" cmp expected made
+# on the second alone it does not make a block of the region readable as bad
+new_chip 16 2 14:1
+expect 0 "primary in block 15, mirror in block 14" init $of_two 4 --apply made --force new
+says "  block 14: factory"
+notes "note: block 14 of the region: marked on the second page alone, and so not readable as bad: a copy of the table may"
+notes "a copy of the table may go there. A zero step on such a block keeps it out bitmap: by the marks"
+new_chip 16 2 12 13 13:1 11:1
+expect 0 "primary in block 15, mirror in block 14" init $of_two 4 --apply made --force new
+says_not "note: "
+new_chip 16 2 11:1 13:1 15:1
+expect 0 "primary in block 15, mirror in block 14" init $of_two 5 --apply made --force new
+notes "note: blocks 11, 13, 15 of the region: marked on the second page alone, and so not readable as bad"
+# the primary's block counts as good, with its mark on the second page or on both, and no other does
+bitmap_of 16 13 14 >bitmap
+for marked in 15:1 "15 15:1"; do
+	new_chip 16 2 13 14:1 $marked
+	cp new expected
+	put_copy expected 15 2 1 primary 001
+	put_copy expected 14 2 1 mirror 001
+	expect 0 "primary in block 15, mirror in block 14" init $of_two 4 --unreadable 15:0 --apply made --force new
+	says "entries: 14 good, 0 reserved, 0 late, 2 factory"
+	check "the primary's block counts as good, marked at $marked" cmp expected made
+done
+expect 0 "primary in block 14, mirror in block 12" init $of_two 4 --apply made --force new
+says "  block 13: factory"
+says_not "  block 14: factory"
+says "  block 15: factory"
+# a dump of one page a block does not show the marks of second pages, and does with a bitmap
+dd if=new of=one_page_each bs=2112 count=16 2>/dev/null
+expect_none none 2 "init: expected --bitmap, as with 1 page a block the dump does not show the marks of second pages" \
+	init --pages-per-block 1 --apply none one_page_each
+expect 0 "init: 4 steps, to version 1" init --pages-per-block 1 --bitmap bitmap one_page_each
+
 # a bitmap that is told, with the dump of the region or of the chip; its marks do not count then
 printf '\377\033\344\377' >bitmap
-new_chip 16 1 2 14
-dd if=new of=new_region bs=2112 skip=12 2>/dev/null
+new_chip 16 2 2 14
+dd if=new of=new_region bs=2112 skip=24 2>/dev/null
 cp new expected
-put_copy expected 15 1 1 primary 001
-put_copy expected 13 1 1 mirror 001
+put_copy expected 15 2 1 primary 001
+put_copy expected 13 2 1 mirror 001
 expect 0 "pair: settled, version 1, primary in block 15, mirror in block 13" \
-	init --pages-per-block 1 --bitmap bitmap --apply made --force new
+	init --pages-per-block 2 --bitmap bitmap --apply made --force new
 says "bitmap: bitmap (told)"
 says "entries: 10 good, 2 reserved, 2 late, 2 factory"
 check "a bitmap that is told" cmp expected made
-dd if=expected of=expected_region bs=2112 skip=12 2>/dev/null
+dd if=expected of=expected_region bs=2112 skip=24 2>/dev/null
 expect 0 "pair: settled, version 1, primary in block 15, mirror in block 13" \
-	init $chip --bitmap bitmap --apply made --force new_region
+	init --blocks 16 --pages-per-block 2 --bitmap bitmap --apply made --force new_region
 check "a bitmap that is told, with a dump of the region" cmp expected_region made
-expect 0 "entries: 10 good, 2 reserved, 2 late, 2 factory" pair $chip made
+expect 0 "entries: 10 good, 2 reserved, 2 late, 2 factory" pair --blocks 16 --pages-per-block 2 made
 for entry in " 5: reserved" " 6: late" "s 7-8: factory" " 9: late" " 10: reserved"; do
 	says "  block$entry"
 done
 expect_none none 2 "init: expected --bitmap, as the last four blocks alone do not show the marks of all" \
-	init $chip --apply none new_region
+	init --blocks 16 --pages-per-block 2 --apply none new_region
 
 # every P and every size of the region: what was in the two blocks is erased, to their last page; other blocks stay
 pattern() { # BLOCKS: a bitmap in which every byte differs from the next
@@ -1236,16 +1284,16 @@ expect 1 "init: there is a table already" init --region-blocks 6 below
 expect_warned 1 "behind the bitmap of 8 blocks" "init: there is a table already" init --blocks 8 last_four
 
 # the pages, as files
-new_chip 16 1 14
+new_chip 16 2 14
 bitmap_of 16 14 >bitmap
-expect 0 "     1  write     15     0  0x000007800  step-01-block-15-page-0.bin" \
-	init --pages-per-block 1 --pages first_images new
+expect 0 "     1  write     15     0  0x00000f000  step-01-block-15-page-0.bin" \
+	init --pages-per-block 2 --pages first_images new
 says "page written: first_images/step-03-block-13-page-0.bin"
 cp new expected
-put_copy expected 15 1 1 primary 001
-put_copy expected 13 1 1 mirror 001
-dd if=first_images/step-01-block-15-page-0.bin of=new bs=2112 seek=15 conv=notrunc 2>/dev/null
-dd if=first_images/step-03-block-13-page-0.bin of=new bs=2112 seek=13 conv=notrunc 2>/dev/null
+put_copy expected 15 2 1 primary 001
+put_copy expected 13 2 1 mirror 001
+dd if=first_images/step-01-block-15-page-0.bin of=new bs=2112 seek=30 conv=notrunc 2>/dev/null
+dd if=first_images/step-03-block-13-page-0.bin of=new bs=2112 seek=26 conv=notrunc 2>/dev/null
 check "the pages of a first pair, written by hand" cmp expected new
 check "a file for each page of the first pair" [ "$(ls first_images | wc -l)" -eq 2 ]
 pattern 32768 >bitmap
@@ -1258,9 +1306,9 @@ tail -c 8448 made >found
 check "the primary's pages in their names' order are the copy" cmp expected found
 
 # wrong arguments and files
-new_chip 16 1 14
+new_chip 16 2 14
 printf '\377\377\377\377' >bitmap
-first="init --pages-per-block 1 --apply none"
+first="init --pages-per-block 2 --apply none"
 for len in 0 3 5 16; do
 	ff 16 | dd bs=1 count=$len of=other_bitmap 2>/dev/null
 	expect_none none 2 "other_bitmap: ends at offset $len, expected 4 bytes, two bits for each of the chip's 16 blocks (" \
@@ -1293,24 +1341,24 @@ done
 for steps in 11 -1; do
 	expect_none none 2 "init: --steps $steps: out of range, expected a number from 0 to 10" $first --steps=$steps new
 done
-expect 2 "init: --steps: expected --apply beside it" init --pages-per-block 1 --steps 2 new
-expect_none none 2 "init: --status-out: expected --apply beside it" init --pages-per-block 1 --status-out none new
+expect 2 "init: --steps: expected --apply beside it" init --pages-per-block 2 --steps 2 new
+expect_none none 2 "init: --status-out: expected --apply beside it" init --pages-per-block 2 --status-out none new
 for option in "--bitmap bitmap" "--version 1" "--block 15" "--steps 1" "--apply none" "--pages none_pages" "--json"; do
 	expect_none none 2 "init: ${option%% *}: is given twice; expected it once" \
-		init --pages-per-block 1 $option $option new
+		init --pages-per-block 2 $option $option new
 done
 for option in "--bit bitmap" "--vers 1" "--bloc 15" "--step 1"; do
 	expect_none none 2 "${option%% *}: no such option" $first $option new
 done
 expect_none none 2 "--failed: no such option" $first --failed 1 new
 expect_none none 2 "--mark-late: no such option" $first --mark-late 1 new
-expect 2 "init: no file; expected DUMP as the last argument" init --pages-per-block 1
-expect 2 "one argument too many" init --pages-per-block 1 new new
-expect 2 "new: ends at offset 33792; expected 67584 bytes, all 32 blocks of 1 page" init --blocks 32 --pages-per-block 1 new
+expect 2 "init: no file; expected DUMP as the last argument" init --pages-per-block 2
+expect 2 "one argument too many" init --pages-per-block 2 new new
+expect 2 "new: ends at offset 67584; expected 135168 bytes, all 32 blocks of 2 pages" init --blocks 32 --pages-per-block 2 new
 # its files
 expect_none none 2 "bitmap: is the file that is read" $first --status-out bitmap --bitmap bitmap --force new
 expect_none none 2 "./bitmap: is the file that is read, bitmap" $first --status-out ./bitmap --bitmap bitmap --force new
-expect 2 "new: is the file that is read" init --pages-per-block 1 --apply new --force new
+expect 2 "new: is the file that is read" init --pages-per-block 2 --apply new --force new
 printf '\377\377\377\377' >expected
 check "a bitmap that is read stays as it is" cmp expected bitmap
 for other in "- bitmap and the dump" "new bitmap and the status file"; do
@@ -1318,6 +1366,285 @@ for other in "- bitmap and the dump" "new bitmap and the status file"; do
 	[ "${other%% *}" = - ] || options="--bitmap - --status -"
 	expect_none none 2 "-: is named for two files to read, the ${other#* }" $first $options "${other%% *}"
 done
+
+# ---- first
+
+marks_of() { # BLOCKS BAD..: the marks of a chip with these blocks marked, as new_chip marks them
+	printf "$(echo "$*" | tr ' ' '\n' | awk -F : 'NR == 1 { blocks = $1; next } { bad[2 * $1 + $2] = 1 } END {
+		for (i = 0; i < 2 * blocks; i++)
+			printf "\\%s", (i in bad ? "000" : "377") }')"
+}
+marks_in() { # FILE PAGES: the marks of a dump
+	printf "$(od -An -v -to1 -w2112 "$1" | cut -c 8194-8196 | awk -v pages="$2" '(NR - 1) % pages < 2 { printf "\\%s", $1 }')"
+}
+first_is() { # MARKS LINES ARGUMENTS..: what is told, with ; between the lines, and the bitmap, which is in the file right
+	marked_at=$1
+	echo "$2" | tr ';' '\n' >right_lines
+	shift 2
+	rm -f first_bitmap
+	expect 0 "bitmap written: first_bitmap" first --bitmap-out first_bitmap "$@"
+	check "ream first $*: the bitmap of marks at $marked_at" cmp right first_bitmap
+	sed '/^bad: /,/^bitmap written/!d; /^bitmap written/d' out >told
+	check "ream first $*: what is told of marks at $marked_at" cmp right_lines told
+}
+# A dump of a chip with these blocks marked, and its marks alone.
+first_of() { # LINES BLOCKS PAGES BAD..
+	lines=$1
+	blocks=$2
+	of_block=$3
+	shift 3
+	new_chip "$blocks" "$of_block" "$@"
+	marks_of "$blocks" "$@" >marks
+	bitmap_of "$blocks" "$@" >right
+	first_is "$*" "$lines" --pages-per-block "$of_block" new
+	first_is "$*" "$lines" --marks marks
+}
+
+first_of "bad: none of 16 blocks" 16 2
+says "dump: 16 blocks (by its size), of each the marks of its first and second page"
+says "region: the last four blocks, 12-15 (assumed)"
+cp new new_before
+expect 0 "bad: none of 16 blocks" first --pages-per-block 2 new
+says "chip: 16 blocks (by the dump's size), 2 pages a block (told)"
+says "dump: the whole chip; a copy of the table fills 1 page"
+says "region: the last four blocks, 12-15 (assumed)"
+says_not "note: "
+says_not "written"
+check "the dump that is read stays as it is" cmp new_before new
+expect 0 "dump: 16 blocks (told), of each the marks" first --marks --blocks 16 --region-blocks 7 marks
+says "region: the last seven blocks, 9-15 (told)"
+first_of "bad: 4 of 16 blocks;  block 3: first page;  block 7: second page;  blocks 9-10: both pages" \
+	16 2 3 7:1 9 9:1 10 10:1
+marks_in new 2 >marks_found
+check "a dump has the marks that it is made with" cmp marks marks_found
+# blocks beside each other that are marked alike are one line, and others are not
+first_of "bad: 6 of 16 blocks;  block 4: first page;  block 5: second page;  blocks 6-7: both pages;  blocks 8-9: first page" \
+	16 2 4 5:1 6 6:1 7 7:1 8 9
+first_of "bad: 3 of 16 blocks;  blocks 0-1: second page;  block 15: both pages" 16 2 0:1 1:1 15 15:1
+every=$(seq -s ' ' 0 15)
+first_of "bad: 16 of 16 blocks;  blocks 0-15: first page" 16 2 $every
+first_of "bad: 16 of 16 blocks;  blocks 0-15: second page" 16 2 $(seq -f %g:1 -s ' ' 0 15)
+first_of "bad: 16 of 16 blocks;  blocks 0-15: both pages" 16 2 $every $(seq -f %g:1 -s ' ' 0 15)
+# every block, of the smallest chip, whatever the pages of a block are
+for of_block in 2 3; do
+	block=0
+	while [ $block -lt 8 ]; do
+		first_of "bad: 1 of 8 blocks;  block $block: first page" 8 $of_block $block
+		first_of "bad: 1 of 8 blocks;  block $block: second page" 8 $of_block $block:1
+		first_of "bad: 1 of 8 blocks;  block $block: both pages" 8 $of_block $block $block:1
+		block=$((block + 1))
+	done
+done
+first_of "bad: 2 of 8 blocks;  block 0: second page;  block 7: first page" 8 64 0:1 7
+expect 0 "chip: 8 blocks (by the dump's size), 64 pages a block (assumed)" first new
+says "  block 0: second page"
+# a mark on a later page is none
+first_of "bad: 1 of 8 blocks;  block 1: second page" 8 4 1:1
+poke new $((5 * 4 * 2112 + 2 * 2112 + 2048)) '\000'
+poke new $((6 * 4 * 2112 + 3 * 2112 + 2048)) '\000'
+first_is "later pages" "bad: 1 of 8 blocks;  block 1: second page" --pages-per-block 4 new
+# nor is any byte but OOB 0
+dd if=/dev/zero of=new bs=2112 count=24 2>/dev/null
+for block in 0 1 2 3 4 5 6 7; do
+	poke new $((block * 3 * 2112 + 2048)) '\001'
+	poke new $(((block * 3 + 1) * 2112 + 2048)) '\200'
+done
+bitmap_of 8 >right
+first_is "no OOB 0" "bad: none of 8 blocks" --pages-per-block 3 new
+marks_in new 3 >marks
+first_is "no OOB 0" "bad: none of 8 blocks" --marks marks
+# 01 to FE are no marks
+byte_values() { printf "$(awk 'BEGIN { for (i = 0; i < 256; i++) printf "\\%03o", i }')"; }
+bitmap_of 128 0 >right
+byte_values >marks
+first_is "every value" "bad: 1 of 128 blocks;  block 0: first page" --marks marks
+{ printf '\377'; byte_values | dd bs=255 count=1 2>/dev/null; } >marks
+first_is "every value" "bad: 1 of 128 blocks;  block 0: second page" --marks marks
+new_chip 16 2
+block=0
+for value in 000 001 002 004 010 020 040 100 200 017 360 177 277 357 373 376; do
+	poke new $(((2 * block) * 2112 + 2048)) "\\$value"
+	poke new $(((2 * ((block + 2) % 16) + 1) * 2112 + 2048)) "\\$value"
+	block=$((block + 1))
+done
+bitmap_of 16 0 2 >right
+first_is "sixteen values" "bad: 2 of 16 blocks;  block 0: first page;  block 2: second page" --pages-per-block 2 new
+marks_in new 2 >marks
+first_is "sixteen values" "bad: 2 of 16 blocks;  block 0: first page;  block 2: second page" --marks marks
+# chips of other sizes
+for blocks in 12 20 1020 4096 8192 8196 16388 32764 32768; do
+	last=$((blocks - 1))
+	marks_of $blocks 0 1:1 $((blocks / 2)):1 $last $last:1 >marks
+	bitmap_of $blocks 0 1 $((blocks / 2)) $last >right
+	lines="bad: 4 of $blocks blocks;  block 0: first page;  block 1: second page;  block $((blocks / 2)): second page"
+	lines="$lines;  block $last: both pages"
+	first_is "first and last blocks" "$lines" --marks marks
+	first_is "first and last blocks" "$lines" --marks --blocks $blocks marks
+done
+lines="bad: 5 of 1024 blocks;  block 0: both pages;  block 511: first page;  blocks 512-513: second page"
+lines="$lines;  block 1023: second page"
+first_of "$lines" 1024 2 0 0:1 511 512:1 513:1 1023:1
+# the region's size does not matter
+for size in 4 5 6 7; do
+	first_is "a region of $size" "$lines" --region-blocks $size --pages-per-block 2 new
+	first_is "a region of $size" "$lines" --region-blocks $size --marks marks
+	says "region: the last $(word $size) blocks, $((1024 - size))-1023 (told)"
+done
+
+# what init makes by the marks, it makes by this bitmap; only the primary's block counts as good by the marks
+for bads in "" 3 "3:1" "0 5:1 9 9:1 14" "1:1 12 13" "2 13 13:1 15:1"; do
+	new_chip 16 2 $bads
+	expect 0 "bitmap written: first_bitmap" first --bitmap-out first_bitmap --force --pages-per-block 2 new
+	[ "$bads" != "2 13 13:1 15:1" ] || poke first_bitmap 3 '\363'
+	expect 0 "bitmap: by the marks in the dump" init --pages-per-block 2 --apply by_marks --force new
+	expect 0 "bitmap: first_bitmap (told)" init --pages-per-block 2 --bitmap first_bitmap --apply by_bitmap --force new
+	check "a pair by the first bitmap is the one by the marks: $bads" cmp by_marks by_bitmap
+done
+
+# blocks of the region that are marked on their second page alone are not readable as bad
+new_chip 16 2 9:1 11:1 14 14:1 15:1
+marks_in new 2 >marks
+for shown in "--pages-per-block 2 new" "--marks marks"; do
+	expect 0 "bad: 4 of 16 blocks" first $shown
+	notes "note: block 15 of the region: marked on the second page alone, and so not readable as bad: a copy of the table"
+	expect 0 "bad: 4 of 16 blocks" first --region-blocks 7 $shown
+	notes "note: blocks 9, 11, 15 of the region: marked on the second page alone, and so not readable as bad"
+done
+new_chip 16 2 11:1 12 15 15:1
+expect 0 "bad: 3 of 16 blocks" first --pages-per-block 2 new
+says_not "note: "
+
+# a chip that is not new
+for copies in "1 2" "2 1" "4 1" "3 0" "0 3"; do
+	make_dump 16 2 $copies >used
+	expect 0 "bad: none of 16 blocks" first --pages-per-block 2 used
+	notes "note: there is a table already (ream pair), so the chip is not new. The marks of a chip in use are not all the"
+	notes "are not all the factory's: a block that was retired shows the same bad: none"
+done
+{ ff $((12 * 4224)); primary 005; blank; primary 006; blank; mirror 005; blank; blank | zeroed; blank; } >used
+expect_none none 0 "  block 15: first page" first --pages-per-block 2 used
+notes "note: there is a table already (ream pair), so the chip is not new."
+poke used $((12 * 4224 + 2062)) 'bbt0'
+poke used $((13 * 4224 + 2062)) 'bbt0'
+poke used $((14 * 4224 + 2062)) 'bbt0'
+expect 0 "  block 15: first page" first --pages-per-block 2 used
+says_not "note: "
+new_chip 8196 2 17:1
+primary 005 | dd of=new bs=2112 seek=$((8195 * 2)) conv=notrunc 2>/dev/null
+expect 0 "  block 17: second page" first --pages-per-block 2 new
+notes "note: block 8195 is a copy with its header on page 0 only, as Linux writes it above 8,192 blocks"
+notes_not "there is a table"
+rm new
+# numbers that the dump contradicts
+expect_warned 0 "last four blocks; --region-blocks 6 would have it found" "bad: none of 16 blocks" first below
+make_dump 16 128 1 2 >long_blocks
+expect_warned 0 "long_blocks: 64 pages a block are assumed, but every copy of the table stands right for 128 pages" \
+	"bad: none of 32 blocks" first long_blocks
+expect 0 "bad: none of 16 blocks" first --pages-per-block 128 long_blocks
+rm long_blocks
+
+# wrong arguments and files
+new_chip 16 2 3 5:1
+marks_of 16 3 5:1 >marks
+first="first --bitmap-out none"
+dd if=new of=new_region bs=4224 skip=12 2>/dev/null
+expect_none none 2 "first: expected all pages of the whole chip, or --marks, as the last four blocks alone do not show the" \
+	$first --blocks 16 --pages-per-block 2 new_region
+check "the complaint tells what they do not show" grep -qF -e "alone do not show the marks of all" err
+check "there is no other complaint" [ "$(wc -l <err)" -eq 1 ]
+dd if=new of=new_region bs=4224 skip=11 2>/dev/null
+expect_none none 2 "as the last five blocks alone do not show the marks of all" \
+	$first --blocks 16 --region-blocks 5 --pages-per-block 2 new_region
+expect_none none 2 "has 5 blocks of 2 pages; expected a whole chip, a multiple of 4 blocks" \
+	$first --pages-per-block 2 new_region
+expect_none none 2 "first: expected all pages of the whole chip, or --marks, as with 1 page a block the dump does not show" \
+	$first --pages-per-block 1 new
+check "the complaint tells what it does not show" grep -qF -e "the dump does not show the marks of second pages" err
+check "there is no other complaint" [ "$(wc -l <err)" -eq 1 ]
+expect_none none 2 "new: ends at offset 67584, inside block 0; expected whole blocks of 135168 bytes, 64 pages of 2112 (" \
+	$first new
+expect_none none 2 "new: ends at offset 67584; expected 135168 bytes, all 32 blocks of 2 pages, or 16896 bytes, the last four" \
+	$first --blocks 32 --pages-per-block 2 new
+expect_none none 2 "--pages-per-block 1: expected at least 2, the pages of a table of 8196 blocks" \
+	$first --blocks 8196 --pages-per-block 1 new
+for blocks in 12 20; do
+	expect_none none 2 "marks: ends at offset 32, expected $((2 * blocks)) bytes, 2 marks for each of the chip's $blocks blocks (" \
+		$first --marks --blocks $blocks marks
+	check "the refusal is named" grep -qF -e "(refusal 1: a lent buffer has the wrong length)" err
+done
+: >empty
+expect_none none 2 "empty: ends at offset 0, expected 32 bytes" $first --marks --blocks 16 empty
+expect_none none 2 "empty: is empty; expected 2 marks for each block of a chip" $first --marks empty
+for len in 1 15 17 65537; do
+	ff $len >other_marks
+	expect_none none 2 "other_marks: ends at offset $len, inside block $((len / 2)); expected 2 marks for each block of a chip (" \
+		$first --marks other_marks
+	check "the refusal is named" grep -qF -e "(refusal 1: a lent buffer has the wrong length)" err
+done
+for len in 2 8 14 18 20 36 65538 65544; do
+	ff $len >other_marks
+	expect_none none 2 "other_marks: has $len bytes, the marks of $((len / 2)) block" $first --marks other_marks
+	check "the range is told" grep -qF -e "; expected those of a multiple of 4 blocks from 8 to 32768 (refusal 2: a number is" err
+done
+expect_none none 2 "--pages-per-block 2: expected it without --marks, as marks alone have no pages" \
+	$first --marks --pages-per-block 2 marks
+ff 16 >other_marks
+ff $((16 * 2112)) >other_dump
+for size in 5 6 7; do
+	expect_none none 2 "--region-blocks $size: expected at most 4, half of the chip's 8 blocks (refusal 2: a number is" \
+		$first --marks --region-blocks $size other_marks
+	expect_none none 2 "--region-blocks $size: expected at most 4, half of the chip's 8 blocks (refusal 2: a number is" \
+		$first --pages-per-block 2 --region-blocks $size other_dump
+done
+for size in 0 3 8 -4; do
+	expect_none none 2 "first: --region-blocks $size: out of range, expected a number from 4 to 7 (refusal 2: a number" \
+		$first --marks --region-blocks=$size marks
+done
+for blocks in 0 4 10 32772 99999999999 99999999999999999999999 -8; do
+	expect_none none 2 "first: --blocks $blocks: out of range, expected a multiple of 4 from 8 to 32768 (refusal 2: a number" \
+		$first --marks --blocks=$blocks marks
+done
+for option in --marks "--bitmap-out none" --force "--blocks 16" "--region-blocks 4" "--pages-per-block 2" --json; do
+	expect_none none 2 "first: ${option%% *}: is given twice; expected it once" first $option $option new
+done
+for option in "--mark" "--bitmap none" "--bitmap-o none" "--forc"; do
+	expect_none none 2 "first: ${option%% *}: no such option; --" first $option marks
+done
+for option in "--status status" "--unreadable 15:0" "--apply none" "--spares" "--mark-late 3"; do
+	expect_none none 2 "first: ${option%% *}: no such option" $first $option marks
+done
+expect_none none 2 "first: --marks: takes no value" $first --marks=marks new
+expect_none none 2 "first: --bitmap-out: expected a value, found an empty one" first --bitmap-out= new
+expect_none none 2 "first: no file; expected DUMP as the last argument" $first --marks
+expect_none none 2 "one argument too many" $first --marks marks marks
+expect_none none 2 "missing: cannot be read" $first --marks missing
+expect_none none 2 "missing: cannot be read" $first missing
+expect_none none 2 ".: expected a regular file or a pipe" $first --marks .
+# its file
+cp marks marks_before
+cp new new_before
+expect 2 "marks: is the file that is read, ./marks" first --marks --bitmap-out marks --force ./marks
+expect 2 "./new: is the file that is read, new" first --pages-per-block 2 --bitmap-out ./new --force new
+check "marks that are read stay as they are" cmp marks_before marks
+check "a dump that is read stays as it is" cmp new_before new
+bitmap_of 16 3 5 >right
+echo precious >precious
+expect 2 "precious: is there already; --force replaces it" first --marks --bitmap-out precious marks
+check "a file that is there stays" grep -q precious precious
+expect 0 "bitmap written: precious" first --marks --bitmap-out precious --force marks
+check "--force replaces it" cmp right precious
+expect 2 ".: is there and is no regular file" first --marks --bitmap-out . --force marks
+expect_none missing/none 2 "missing/none: cannot be written" first --marks --bitmap-out missing/none marks
+ff 65536 >other_marks
+(
+	trap '' XFSZ
+	ulimit -f 4
+	"$ream" first --marks --bitmap-out none other_marks >out_file 2>err_file
+	[ $? -eq 2 ] && [ ! -s out_file ] && grep -q "^ream: none: cannot be written.*: File too large" err_file
+)
+check "a bitmap that cannot be written whole" [ $? -eq 0 ]
+check "a bitmap that cannot be written whole is not there" [ ! -e none ]
+check "a failed run leaves no temporary file" test -z "$(find . -name '*.??????')"
 
 # ---- wrong arguments and files
 
@@ -1327,7 +1654,7 @@ for blocks in 0 4 10 32772 99999999999 99999999999999999999999 -8; do
 done
 for size in 0 3 8 99999999999 99999999999999999999999 -4; do
 	for command in "pair settled" "update --mark-late 1 --apply none settled" "recover --apply none settled" \
-		"init --apply none settled" "simulate --dump none"; do
+		"init --apply none settled" "first --bitmap-out none settled" "simulate --dump none"; do
 		expect_none none 2 "--region-blocks $size: out of range, expected a number from 4 to 7 (refusal 2: a number" \
 			$command --region-blocks "$size"
 	done
@@ -1354,7 +1681,7 @@ expect 2 "wrong_status: offset 2 has 02, expected 00 (read well) or 01 (unreadab
 expect 2 "missing: cannot be read" pair $chip --status missing settled
 
 expect 2 "no command"
-expect 2 "pear: no such command" pear
+expect 2 "pear: no such command; expected pair, first, init, update, recover, page, boot or simulate (ream --help)" pear
 expect 2 "--block: no such option; --blocks has to be named in full" pair --block 16 settled
 expect 2 "--block=16: no such option; --blocks has to be named in full" pair --block=16 settled
 expect_none 64 2 "--page: no such option" recover --page 64 settled
@@ -1413,12 +1740,19 @@ rm -f piped_out
 piped 0 "dump written: piped_out" newer recover $chip --apply piped_out -
 check "a pipe's dump is recovered as a file's" cmp recovered piped_out
 piped 0 "update: 4 steps" settled update $chip --mark-late 5 -
-new_chip 16 1 14
-"$ream" init --pages-per-block 1 --apply by_name --force new >out
+new_chip 16 2 14
+"$ream" init --pages-per-block 2 --apply by_name --force new >out
 rm -f piped_out
-piped 0 "pair: settled, version 1" new init --pages-per-block 1 --apply piped_out -
+piped 0 "pair: settled, version 1" new init --pages-per-block 2 --apply piped_out -
 check "a pipe's dump gets its first pair as a file's" cmp by_name piped_out
-piped 0 "bitmap: standard input (told)" bitmap init --pages-per-block 1 --bitmap - new
+piped 0 "bitmap: standard input (told)" bitmap init --pages-per-block 2 --bitmap - new
+piped 0 "  block 14: first page" new first --pages-per-block 2 --bitmap-out piped_bitmap -
+bitmap_of 16 14 >expected
+check "a pipe's dump gives its first bitmap as a file's" cmp expected piped_bitmap
+piped 0 "  block 5: second page" marks first --marks --bitmap-out piped_bitmap --force -
+bitmap_of 16 3 5 >expected
+check "a pipe's marks give a first bitmap as a file's" cmp expected piped_bitmap
+piped 2 "standard input: ends at offset 32, expected 40 bytes" marks first --marks --blocks 20 -
 piped 2 "standard input: ends at offset 8447" short pair $chip -
 piped 1 "block 15: unreadable" status pair $chip --status - settled
 "$ream" pair $chip - <settled >out 2>err
@@ -1486,7 +1820,8 @@ check "the input is as it was" cmp settled input
 
 # nothing is told before the path of an output is refused
 for command in "recover $chip --apply there newer" "update $chip --mark-late 1 --apply missing/none settled" \
-	"recover $chip --apply none --status-out there newer" "init --pages-per-block 1 --apply there new" \
+	"recover $chip --apply none --status-out there newer" "init --pages-per-block 2 --apply there new" \
+	"first --marks --bitmap-out there marks" "first --pages-per-block 2 --bitmap-out missing/none new" \
 	"simulate --svg there" "page --repaired there page"; do
 	{ ff 512; printf '\000\000\001\243\001\377\126\000\377\377\377\000\142\377\377\377'; } >page
 	"$ream" $command >out 2>err
@@ -2011,42 +2346,69 @@ if command -v python3 >/dev/null && python3 -c 'import json' 2>/dev/null; then
 	cp settled "$odd"
 	json 0 pair $chip "$odd"
 	has "d['dump']['name'] == 'odd\ufffd\n\u00e9'"
-	new_chip 16 1 3 14
-	json 0 init --pages-per-block 1 new
+	new_chip 16 2 3 14
+	json 0 init --pages-per-block 2 new
 	has "d['command'] == 'init'" "d['chip']['blocks'] == 16" "d['dump']['whole_chip'] is True" "d['warnings'] == []" \
 		"d['notes'] == []" "[b['holds'] for b in d['region']] == ['erased', 'erased', 'bad', 'erased']" \
 		"d['found'] == 'no table'" "d['refusal'] is None" "d['bitmap_told'] is False" "d['block_told'] is False" \
 		"d['version_told'] is False" "d['entries'] == {'good': 14, 'reserved': 0, 'late': 0, 'factory': 2}" \
 		"[run['first'] for run in d['not_good']] == [3, 14]" "d['version'] == 1" \
-		"d['steps'] == [{'step': 0, 'does': 'erase', 'block': 15, 'address': 30720},
-			{'step': 1, 'does': 'write', 'block': 15, 'page': 0, 'address': 30720},
-			{'step': 2, 'does': 'erase', 'block': 13, 'address': 26624},
-			{'step': 3, 'does': 'write', 'block': 13, 'page': 0, 'address': 26624}]" \
+		"d['steps'] == [{'step': 0, 'does': 'erase', 'block': 15, 'address': 61440},
+			{'step': 1, 'does': 'write', 'block': 15, 'page': 0, 'address': 61440},
+			{'step': 2, 'does': 'erase', 'block': 13, 'address': 53248},
+			{'step': 3, 'does': 'write', 'block': 13, 'page': 0, 'address': 53248}]" \
 		"d['done'] == 4" "d['written'] == []" "d['after'] == {'version': 1, 'primary': 15, 'mirror': 13}"
-	json 0 init --pages-per-block 1 --bitmap bitmap --version 7 --block 12 --apply json_first --pages json_first_pages new
+	json 0 init --pages-per-block 2 --bitmap bitmap --version 7 --block 12 --apply json_first --pages json_first_pages new
 	has "d['bitmap_told'] is True" "d['block_told'] is True" "d['version_told'] is True" "d['version'] == 7" \
 		"d['entries']['good'] == 16" "d['steps'][3]['file'] == 'step-03-block-15-page-0.bin'" \
 		"[w['what'] for w in d['written']] == ['dump', 'page', 'page']" \
 		"d['after'] == {'version': 7, 'primary': 12, 'mirror': 15}"
-	json 0 pair --pages-per-block 1 json_first
+	json 0 pair --pages-per-block 2 json_first
 	has "d['version'] == 7" "d['primary'] == 12" "d['mirror'] == 15" "d['entries']['good'] == 16"
 	for steps in 1 2; do
-		json 0 init --pages-per-block 1 --steps $steps --apply json_cut --force new
+		json 0 init --pages-per-block 2 --steps $steps --apply json_cut --force new
 		has "d['done'] == $steps" "len(d['steps']) == 4" "'after' not in d" "d['entries']['factory'] == 2"
 	done
-	json 1 init --pages-per-block 1 json_cut
+	json 1 init --pages-per-block 2 json_cut
 	has "d['found'] == 'not settled'" "d['refusal'] is None" "'steps' not in d" "'entries' not in d" \
 		"d['region'][3] == {'block': 15, 'holds': 'primary', 'version': 1, 'pages': 'P'}"
 	json 1 init $chip settled
 	has "d['found'] == 'settled'" "d['refusal'] is None" "'steps' not in d"
 	json 1 init $chip several
 	has "d['found'] == 'not settled'" "d['refusal']['number'] == 8"
-	new_chip 16 1 12 13 14
-	json 1 init --pages-per-block 1 new
+	new_chip 16 2 12 13 14
+	json 1 init --pages-per-block 2 new
 	has "d['found'] == 'no table'" "d['refusal']['number'] == 11" "'steps' not in d"
-	new_chip 16 1 12 13 14 15
-	json 1 init --pages-per-block 1 new
+	new_chip 16 2 12 13 14 15
+	json 1 init --pages-per-block 2 new
 	has "d['found'] == 'no table'" "d['refusal']['number'] == 7" "'steps' not in d"
+	new_chip 16 2 3 7:1 9 9:1 10 10:1
+	json 0 first --pages-per-block 2 --bitmap-out json_bitmap new
+	has "d['command'] == 'first'" "d['marks_alone'] is False" "d['chip'] == {'blocks': 16, 'blocks_told': False,
+		'region_blocks': 4, 'region_blocks_told': False, 'pages_per_block': 2, 'pages_per_block_told': True,
+		'table_pages': 1}" "d['dump']['name'] == 'new'" "d['dump']['size'] == 67584" "d['dump']['whole_chip'] is True" \
+		"d['warnings'] == []" "d['notes'] == []" "d['refusal'] is None" "d['good'] == 12" "d['bad'] == 4" \
+		"d['marked'] == [{'first': 3, 'last': 3, 'page': 'first'}, {'first': 7, 'last': 7, 'page': 'second'},
+			{'first': 9, 'last': 10, 'page': 'both'}]" "d['written'] == [{'what': 'bitmap', 'path': 'json_bitmap'}]"
+	bitmap_of 16 3 7 9 10 >expected
+	check "what is told in JSON is written" cmp expected json_bitmap
+	marks_of 16 3 7:1 9 9:1 10 10:1 >marks
+	cp out by_dump.json
+	json 0 first --marks --region-blocks 5 marks
+	has "d['marks_alone'] is True" "d['chip'] == {'blocks': 16, 'blocks_told': False, 'region_blocks': 5,
+		'region_blocks_told': True}" "d['dump'] == {'name': 'marks', 'size': 32}" "d['written'] == []" \
+		"all(d[key] == json.load(open('by_dump.json'))[key] for key in ('good', 'bad', 'marked', 'refusal', 'notes'))"
+	marks_of 8 >marks
+	json 0 first --marks --blocks 8 marks
+	has "d['chip']['blocks_told'] is True" "d['good'] == 8" "d['bad'] == 0" "d['marked'] == []"
+	make_dump 16 2 1 2 >used
+	json 0 first --pages-per-block 2 used
+	has "len(d['notes']) == 1" "d['notes'][0].startswith('there is a table already (ream pair), so the chip is not new.')"
+	"$ream" first --json below >out 2>err
+	check "a warning is on the standard error" grep -q "^ream: warning: below: block 11, .* would have it found$" err
+	has "d['warnings'][0].endswith('; --region-blocks 6 would have it found')" "d['bad'] == 0"
+	"$ream" first --marks --json new >out 2>err
+	check "nothing but JSON is on the standard output" [ ! -s out ]
 	json 0 page page
 	has "d['command'] == 'page'" "d['status'] == 255" "d['tag'] == 1" "d['tag_name'] == 'boot'" "d['path'] == 6" \
 		"d['boot_number'] == 1" "d['generation'] == 2" "d['count'] == 1" "d['repairs'] == 0" "d['repaired'] == []"
@@ -2303,7 +2665,7 @@ done
 
 # ---- help, and the manual
 
-for command in pair init update recover page boot simulate; do
+for command in pair first init update recover page boot simulate; do
 	expect 0 "usage: ream $command" $command --help
 	expect 0 "usage: ream $command" $command --help --nonsense
 	expect 0 "usage: ream $command" $command -h
@@ -2314,10 +2676,13 @@ for command in pair init update recover page boot simulate; do
 	done <told
 done
 expect 0 "usage: ream COMMAND" --help
+says "  first     makes a new chip's first bitmap by the marks of the factory"
 expect 0 "usage: ream COMMAND" -h
 expect 0 "usage: ream COMMAND" help
 expect 2 "pear: no such command" help pear
-expect 0 "ream 3.2" --version
+version=$(sed -n 's/^#define REAM_LIBRARY_VERSION "\(.*\)"/\1/p' "$root/include/reamsickle.h")
+expect 0 "ream $version (Reamsickle)" --version
+check "the manual is of the header's version" grep -q "^\.TH REAM 1 [0-9-]* \"ream $version\" " "$manual"
 
 check "no temporary file is left" test -z "$(find . -name '*.??????')"
 
@@ -2346,16 +2711,28 @@ sed -n '/^failed: step 2/,/^\.EE/p' "$manual" | sed '/^\.EE/d' | plain >printed
 expect 0 "update: 3 steps" update --blocks 1024 --mark-late 17 --failed 2 --pages anew_steps region.bin
 sed -n '/^failed: /,/^  a zero/p' out >found
 check "the manual prints the plan after a failed step as it is" cmp printed found
+sed -n '/^bad: 2 of 1024/,/^\.EE/p' "$manual" | sed '/^\.EE/d' | plain >printed
+marks_of 1024 17 1022 1022:1 >marks
+expect 0 "bitmap written: bitmap.bin" first --marks --bitmap-out bitmap.bin marks
+sed -n '/^bad: /,$p' out >found
+check "the manual prints the marks of a new chip as they are" cmp printed found
 sed -n '/^init: 4 steps/,/^\.EE/p' "$manual" | sed '/^\.EE/d' | plain >printed
 new_chip 4 64 2
-bitmap_of 1024 17 1022 >bitmap
-expect 0 "init: 4 steps" init --blocks 1024 --bitmap bitmap --pages first_steps new
+expect 0 "init: 4 steps" init --blocks 1024 --bitmap bitmap.bin --pages first_steps new
 sed -n '/^init: /,/^ *3 /p' out >found
 check "the manual prints the plan of a first pair as it is" cmp printed found
 for made in again both; do
 	check "a first pair that was cut, and then made or recovered, is the manual's: $made" \
 		cmp manual/first.bin manual/$made.bin
 done
+check "the manual's first pair by the marks is the one by their bitmap" cmp manual/first.bin manual/same.bin
+bitmap_of 16 3 9 14 >right
+check "the manual's first bitmap" cmp right manual/first.bitmap
+sed -n '/^dump: 8 blocks/,/^\.EE/p' "$manual" | sed '/^\.EE/d' | plain >printed
+marks_of 8 2:1 5 5:1 >marks
+"$ream" first --marks --bitmap-out marks.bitmap marks >found
+check "the manual prints the first bitmap of marks as it is" cmp printed found
+check "the manual's marks are these" cmp marks manual/marks
 sed -n '/^dump: 2 blocks/,/^\.EE/p' "$manual" | sed '/^\.EE/d' | plain >printed
 blocks_of 0:0 0:1 | "$ream" boot --spares - >found
 check "the manual prints the map of boot blocks as it is" cmp printed found

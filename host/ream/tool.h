@@ -19,6 +19,7 @@ enum exit_status {
 
 /* The commands, each with the arguments from its name on. */
 enum exit_status pair_command(int argc, char **argv);
+enum exit_status first_command(int argc, char **argv);
 enum exit_status init_command(int argc, char **argv);
 enum exit_status update_command(int argc, char **argv);
 enum exit_status recover_command(int argc, char **argv);

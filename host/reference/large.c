@@ -421,22 +421,25 @@ static uint64_t plan_write(const struct region *region, const struct plan *plan,
 	return (uint64_t)plan->version << 8 | (uint64_t)plan->count << 16;
 }
 
-/* "From N lent bytes, OOB byte 0 of the first page of each block: a byte 0 gives 00, any other 11." Block b
- * stands "in bits 2(b mod 4) and up of byte b/4". */
+/* "2N bytes, 2b and 2b + 1 for block b, and an entry is 00 when either is 0", otherwise 11. Block b stands "in bits
+ * 2(b mod 4) and up of byte b/4". */
 uint64_t ref_first_bitmap(uint64_t n, uint64_t size, const uint8_t *marks, size_t marks_len, uint8_t *bitmap,
 			  size_t bitmap_len)
 {
 	if (!is_chip(n, size))
 		return OUT_OF_RANGE;
-	if (marks_len != n || bitmap_len != n / 4)
+	if (marks_len != 2 * n || bitmap_len != n / 4)
 		return WRONG_LENGTH;
 
 	for (size_t i = 0; i < n / 4; i++) {
 		unsigned byte = 0;
 
-		for (size_t k = 0; k < 4; k++)
-			if (marks[4 * i + k] != 0)
+		for (size_t k = 0; k < 4; k++) {
+			const size_t b = 4 * i + k;
+
+			if (marks[2 * b] != 0 && marks[2 * b + 1] != 0)
 				byte |= 3u << 2 * k;
+		}
 		bitmap[i] = (uint8_t)byte;
 	}
 	return ANSWERED;

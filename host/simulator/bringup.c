@@ -38,28 +38,38 @@ static const struct broken_off has_failed = {
 
 /* ---- an attempt begins */
 
-/* The table of a chip's marks. Those of the region's blocks are as they are, but the chosen block's is FF. */
+/* The marks of a region's block, as they are; of the second page FF where it is past the pages that count. */
+static void take_marks(const struct region *region, unsigned block, uint8_t *marks)
+{
+	marks[0] = region_page(region, block, 0)[PAGE_DATA];
+	marks[1] = region->pages > 1 ? region_page(region, block, 1)[PAGE_DATA] : 0xFF;
+}
+
+/* The table of a chip's marks. Those of the region's blocks are as they are, but the chosen block's are FF. */
 static void make_from_marks(struct history *history, unsigned chosen, uint8_t *bitmap)
 {
 	const struct region *region = &history->region;
-	uint8_t marks[MOST_BLOCKS];
+	uint8_t marks[2 * MOST_BLOCKS], *of_region = marks + 2 * region_first(region);
 	const struct request request = { .asked = FIRST_BITMAP, .region = region, .wanted = marks };
 	uint64_t answer;
 	bool same = true;
 
-	memset(marks, 0xFF, (size_t)region->n);
+	memset(marks, 0xFF, ream_marks_size(region->n));
 	for (uint64_t i = draw_below(&history->state, 8); i > 0; i--) {
 		const uint8_t mark = (uint8_t)draw_below(&history->state, 2);
 
-		marks[draw_below(&history->state, region->n)] = mark;
+		marks[draw_below(&history->state, 2 * region->n)] = mark;
 	}
 	for (unsigned block = 0; block < region->size; block++)
-		marks[region_first(region) + block] = region_page(region, block, 0)[PAGE_DATA];
-	marks[region_first(region) + chosen] = 0xFF;
+		take_marks(region, block, of_region + 2 * block);
+	memset(of_region + 2 * chosen, 0xFF, 2);
 	answer = driver_ask(&history->driver, &history->state, &request);
 	memcpy(bitmap, driver_out(&history->driver), (size_t)region->n / 4);
-	for (uint64_t block = 0; block < region->n; block++)
-		same &= ream_entry_get(bitmap, block) == (marks[block] == 0 ? REAM_ENTRY_FACTORY : REAM_ENTRY_GOOD);
+	for (uint64_t block = 0; block < region->n; block++) {
+		const bool marked = marks[2 * block] == 0 || marks[2 * block + 1] == 0;
+
+		same &= ream_entry_get(bitmap, block) == (marked ? REAM_ENTRY_FACTORY : REAM_ENTRY_GOOD);
+	}
 	require(history, answer == REAM_OK && same, "the first bitmap is that of the marks");
 }
 

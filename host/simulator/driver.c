@@ -30,7 +30,7 @@ static void lend(struct driver *driver, enum buffer buffer, const uint8_t *bytes
 static size_t wanted_len(enum asked asked, uint64_t n)
 {
 	if (asked == FIRST_BITMAP)
-		return (size_t)n;
+		return ream_marks_size(n);
 	return is_update(asked) || asked == TABLE_PAGE ? (size_t)n / 4 : 0;
 }
 

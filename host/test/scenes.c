@@ -267,8 +267,8 @@ void scene_build(struct test *test, struct scene *scene, const struct cast *cast
 		scene->table[MIRROR][draw_below(&test->state, len)] ^= (uint8_t)(1 << bit);
 	}
 	drawn_table(&test->state, scene->wanted, n);
-	memset(scene->marks, 0xFF, (size_t)n);
-	scene->marks[draw_below(&test->state, n)] = 0;
+	memset(scene->marks, 0xFF, ream_marks_size(n));
+	scene->marks[draw_below(&test->state, 2 * n)] = 0;
 	scene_rebuild(test, scene, cast);
 }
 
@@ -311,7 +311,7 @@ void scene_set_up(struct test *test, enum entry_index index, const void *inputs)
 	const struct region *region = &scene->region;
 
 	call_begin_large(test, index, region->n, region->size);
-	call_lend_named(test, "marks", scene->marks, (size_t)region->n);
+	call_lend_named(test, "marks", scene->marks, ream_marks_size(region->n));
 	call_lend_named(test, "image", region->image, region_image_len(region));
 	call_lend_named(test, "status", region->status, region_status_len(region));
 	call_lend_named(test, "wanted", scene->wanted, (size_t)region->n / 4);

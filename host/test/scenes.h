@@ -76,7 +76,7 @@ enum { MOST_FAILED = 1024 };
 struct scene {
 	struct region region;
 	uint8_t wanted[MOST_BITMAP];
-	uint8_t marks[MOST_BLOCKS];
+	uint8_t marks[2 * MOST_BLOCKS];
 	uint8_t table[KINDS][MOST_BITMAP];	/* what the copies of each kind hold */
 	uint8_t made[MOST_BITMAP];		/* what a plan has to make of them */
 	uint8_t failed[MOST_FAILED];		/* the steps that failed */

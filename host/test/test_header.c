@@ -32,7 +32,7 @@ static bool sizes_right(uint64_t n, uint64_t size, unsigned pages)
 	return ream_region_fits(n, size) == fits && ream_table_pages(n) == pages &&
 	       ream_image_size(n, size) == (fits ? size * pages * 2112 : 0) &&
 	       ream_status_size(n, size) == (fits ? size * pages : 0) &&
-	       ream_bitmap_size(n) == (pages == 0 ? 0 : n / 4);
+	       ream_marks_size(n) == (pages == 0 ? 0 : 2 * n) && ream_bitmap_size(n) == (pages == 0 ? 0 : n / 4);
 }
 
 static void try_sizes_of_buffers(struct test *test)
@@ -55,9 +55,10 @@ static void try_sizes_of_buffers(struct test *test)
 			       "a number that is no number of blocks has sizes 0");
 	expect(test, ream_image_size(REAM_BLOCKS_MAX, REAM_REGION_BLOCKS_MAX) == REAM_IMAGE_SIZE_MAX &&
 	       ream_status_size(REAM_BLOCKS_MAX, REAM_REGION_BLOCKS_MAX) == REAM_STATUS_SIZE_MAX &&
+	       ream_marks_size(REAM_BLOCKS_MAX) == REAM_MARKS_SIZE_MAX &&
 	       ream_bitmap_size(REAM_BLOCKS_MAX) == REAM_BITMAP_SIZE_MAX, "the largest sizes");
 	expect(test, REAM_IMAGE_SIZE_MAX == 7 * 4 * 2112 && REAM_STATUS_SIZE_MAX == 7 * 4 &&
-	       REAM_BITMAP_SIZE_MAX == 8192, "they are those of 32,768 blocks with a region of seven");
+	       REAM_MARKS_SIZE_MAX == 2 * 32768 && REAM_BITMAP_SIZE_MAX == 8192, "they are those of 32,768 blocks with a region of seven");
 	expect(test, ream_region_fits(REAM_BLOCKS_MIN, REAM_REGION_BLOCKS_MIN) &&
 	       !ream_region_fits(REAM_BLOCKS_MIN, REAM_REGION_BLOCKS_MIN + 1), "eight blocks allow a region of four");
 }
@@ -255,8 +256,8 @@ static void try_null_in_regions(struct test *test, struct scene *scene)
 
 	test->trying = "null pointers";
 	scene_build(test, scene, &cast);
-	refused = ream_first_bitmap_checked(12, 6, NULL, 12, bitmap, 3) == REAM_LENGTH &&
-		  ream_first_bitmap_checked(12, 6, marks, 12, NULL, 3) == REAM_LENGTH &&
+	refused = ream_first_bitmap_checked(12, 6, NULL, 24, bitmap, 3) == REAM_LENGTH &&
+		  ream_first_bitmap_checked(12, 6, marks, 24, NULL, 3) == REAM_LENGTH &&
 		  ream_table_read_checked(12, 6, NULL, 12672, status, 6, bitmap, 3) == REAM_LENGTH &&
 		  ream_table_read_checked(12, 6, image, 12672, NULL, 6, bitmap, 3) == REAM_LENGTH &&
 		  ream_table_read_checked(12, 6, image, 12672, status, 6, NULL, 3) == REAM_LENGTH;
@@ -270,8 +271,8 @@ static void try_null_in_regions(struct test *test, struct scene *scene)
 
 	expect(test, ream_table_read_checked(12, 6, image, 12672, status, 6, bitmap, 3) ==
 	       (200 << 8 | 11 << 16 | (uint64_t)6 << 32) && memcmp(bitmap, scene->table[PRIMARY], 3) == 0 &&
-	       ream_first_bitmap_checked(12, 6, marks, 12, bitmap, 3) == REAM_OK &&
-	       ream_entry_get(bitmap, 7) == (marks[7] == 0 ? REAM_ENTRY_FACTORY : REAM_ENTRY_GOOD),
+	       ream_first_bitmap_checked(12, 6, marks, 24, bitmap, 3) == REAM_OK &&
+	       ream_entry_get(bitmap, 7) == (marks[14] == 0 || marks[15] == 0 ? REAM_ENTRY_FACTORY : REAM_ENTRY_GOOD),
 	       "with no null pointer the checked functions are the entries");
 }
 

@@ -1,7 +1,7 @@
 -- What is seen of a page that was left blank, complete, unreadable, with zeros or as it was; and what is seen of a good copy: its table has N/4 bytes
 -- and its version is a byte. Of the laws under demand 3 these alone look at bytes.
 -- Assumes nothing.
-use mathlib.Core.Bool.{Bool, true, false, _&&_, _||_, cond, false≢true}
+use mathlib.Core.Bool.{Bool, true, false, _&&_, cond, false≢true}
 use mathlib.Core.List.{List, _++_}
 use mathlib.Core.Logic.{_⊎_, inl, inr, _≢_}
 use mathlib.Core.Path.{_≡_, refl, sym, ap, _∙_, subst}
@@ -11,6 +11,7 @@ use borrow.Author.Tests.{eq-eqb, ne-eqb}
 use lib.Dec.{eqb, lit<}
 use lib.ListN.{length, take, drop, getD, replicate, length-append, length-take, length-drop, length-replicate}
 use lib.Seq.{take-take, take-at, drop-append-add, getD-drop}
+use Rattle.bits.proofs.Both.{or-true}
 use Rattle.bits.specs.Bytes.{word}
 use Rattle.chip.specs.Large.{chipOf, bitmapBytes, pagesOf}
 use Rattle.chip.specs.declared.ChipAnswer.the-variants.{Chip}
@@ -154,12 +155,7 @@ module _ {chip : LargeChip} where
   zeroed-seen r b h =
       let l : List ℕ = bytesAt r b 0 in
       let e : zeroOob l ≡ true = all-intro 64 (λ j. eqb (getD l (2048 + j) 0) 0) (λ j k. eq-eqb (getD l (2048 + j) 0) 0 (h .zero-oob j k)) in
-      let f : (badMark (statusAt r b 0) l || true) ≡ true = go (badMark (statusAt r b 0) l) in
-      rw (e, f)
-    where
-      go : (x : Bool) → (x || true) ≡ true
-      go true = refl
-      go false = refl
+      rw (e, or-true (badMark (statusAt r b 0) l))
 
   pub blank-seen : (r : Region chip) (b p : ℕ) → Blank r b p → (d : List ℕ) × (view r b p ≡ reads Neither 255 d)
   unfolding seen pageOf badMark kindOf kindOfWord sameKind

@@ -1,5 +1,5 @@
 -- Document 01, "Large chip": the entries of a bitmap, the first bitmap, the update rule and the AND of two bitmaps, byte by byte.
-use mathlib.Core.Bool.{cond}
+use mathlib.Core.Bool.{cond, _||_}
 use mathlib.Core.List.{List, [], _∷_}
 use Prim.Native.Nat.{ℕ, _+_, _*_, _/_, _%_, _^_}
 use lib.Bits.{bitAnd}
@@ -15,16 +15,19 @@ entryOf bitmap b = getD bitmap (b / 4) 0 / 4 ^ (b % 4) % 4
 abbrev pub entriesByte : ℕ → ℕ → ℕ → ℕ → ℕ
 entriesByte a b c d = a + 4 * b + 16 * c + 64 * d
 
--- the first bitmap: a mark of 0 gives 00, any other 11
-abbrev pub markEntry : ℕ → ℕ
-markEntry mark = cond (eqb mark 0) 0 3
+-- a block's first entry, by the marks on its first and on its second page: 00 when either is 0, otherwise 11
+abbrev pub markEntry : ℕ → ℕ → ℕ
+markEntry first second = cond (eqb first 0 || eqb second 0) 0 3
+
+-- block b's marks are 2b and 2b + 1
+abbrev pub firstEntry : List ℕ → ℕ → ℕ
+firstEntry marks b = markEntry (getD marks (2 * b) 0) (getD marks (2 * b + 1) 0)
 
 unfoldable pub firstByte : List ℕ → ℕ → ℕ
 firstByte marks k =
-    entriesByte (markEntry (getD marks (4 * k) 0)) (markEntry (getD marks (4 * k + 1) 0)) (markEntry (getD marks (4 * k + 2) 0))
-    (markEntry (getD marks (4 * k + 3) 0))
+    entriesByte (firstEntry marks (4 * k)) (firstEntry marks (4 * k + 1)) (firstEntry marks (4 * k + 2)) (firstEntry marks (4 * k + 3))
 
--- of n marks
+-- of n blocks' marks
 abbrev pub firstBitmap : ℕ → List ℕ → List ℕ
 firstBitmap n marks = build (firstByte marks) (n / 4)
 

@@ -1,19 +1,36 @@
--- Laws of a loop that stores f i at each place i: after i turns the list is what f builds, and then what was there. For any f.
+-- Laws of the list that f builds, and of a loop that stores f i at each place i: after i turns the list is what f builds, and then what was
+-- there. For any f.
 -- Assumes nothing.
+use mathlib.Core.Bool.{Bool, true, false}
 use mathlib.Core.Path.{_≡_, refl, sym, _∙_, ap}
 use mathlib.Core.List.{List, [], _∷_, _++_, append-nil}
 use Prim.Native.Nat.{ℕ, zero, suc, _+_, _<_}
 use native.Mathlib.Numerals.{add-one}
 use native.Mathlib.Omega.{arith}
-use borrow.Author.Tests.{eq-eqb}
-use lib.ListN.{length, getD, drop, set, take, replicate, length-append, replicate-append-replicate}
-use lib.Seq.{append-snoc, drop-cons, drop-length, set-at, take-length, take-suc}
+use borrow.Author.Tests.{eq-eqb, eqb-true, eqb-false}
+use lib.Dec.{eqb}
+use lib.ListN.{length, getD, drop, set, take, replicate, length-append, replicate-append-replicate, List·getD-append}
+use lib.Seq.{append-snoc, drop-cons, drop-length, getD-at, set-at, take-length, take-suc}
 use Rattle.bits.specs.Bytes.{build, copied}
 
 pub length-build : (f : ℕ → ℕ) (n : ℕ) → length (build f n) ≡ n
 unfolding build
 length-build f zero = refl
 length-build f (suc n) = length-append (build f n) (f n ∷ []) ∙ rw (length-build f n) (add-one n)
+
+-- an element of what is built
+pub getD-build : (f : ℕ → ℕ) (n k : ℕ) → k < n → getD (build f n) k 0 ≡ f k
+unfolding build
+getD-build f zero k h = absurd (omega arith)
+getD-build f (suc n) k h = go (eqb k n) refl (getD-build f n k)
+  where
+    go : (t : Bool) → eqb k n ≡ t → (k < n → getD (build f n) k 0 ≡ f k) → getD (build f n ++ (f n ∷ [])) k 0 ≡ f k
+    go true e below = let same : k ≡ n = eqb-true k n e in rw same (getD-at (build f n) (f n) [] 0 n (length-build f n))
+    go false e below =
+        let other : k ≡ n → ⊥ = eqb-false k n e in
+        let h : k < n = omega arith in
+        let built : length (build f n) ≡ n = length-build f n in
+        List·getD-append (build f n) (f n ∷ []) 0 k (omega arith) ∙ below h
 
 -- the list after i turns
 pub filled : (ℕ → ℕ) → ℕ → List ℕ → List ℕ

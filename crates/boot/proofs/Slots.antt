@@ -2,16 +2,15 @@
 -- block by block tell at every moment how each number stands.
 -- Assumes nothing.
 use mathlib.Core.Bool.{Bool, true, false, cond}
-use mathlib.Core.List.{List, [], _∷_, _++_}
+use mathlib.Core.List.{List}
 use mathlib.Core.Path.{_≡_, refl, sym, _∙_, ap}
-use Prim.Native.Nat.{ℕ, zero, suc, _+_, _-_, _*_, _/_, _%_, _<_}
+use Prim.Native.Nat.{ℕ, _+_, _-_, _*_, _/_, _%_, _<_}
 use native.Mathlib.Omega.{arith}
 use borrow.Author.Tests.{ne-eqb, le-leb, lt-leb, ltb-false, eqb-true, eqb-false}
 use lib.Dec.{eqb, ltb}
-use lib.ListN.{length, getD, set, length-set, List·getD-append}
-use lib.Seq.{ext-getD, getD-at, getD-set-same, getD-set-other, set-out}
-use Rattle.bits.proofs.Filling.{length-build}
-use Rattle.bits.specs.Bytes.{build}
+use lib.ListN.{length, getD, set, length-set}
+use lib.Seq.{ext-getD, getD-set-same, getD-set-other, set-out}
+use Rattle.bits.proofs.Filling.{length-build, getD-build}
 use Rattle.chip.specs.declared.BootNumber.{BootNumber}
 use Rattle.chip.specs.declared.ChipBlock.{ChipBlock}
 use Rattle.chip.specs.declared.Generation.{Generation}
@@ -43,20 +42,6 @@ slot-back (Pair older newer) (ho, hn) =
     let second : (s - 4098) % 1024 ≡ newer .0 = omega arith in
     simp (ne-eqb s 0 (λ e. omega arith), lt-leb s 4096 (omega arith), ne-eqb s 4097 (λ e. omega arith)) (rw (first, second) refl)
 slot-back Wrong h = refl
-
--- ---- a list that is built
-getD-build : (f : ℕ → ℕ) (n k : ℕ) → k < n → getD (build f n) k 0 ≡ f k
-unfolding build
-getD-build f zero k h = absurd (omega arith)
-getD-build f (suc n) k h = go (eqb k n) refl (getD-build f n k)
-  where
-    go : (t : Bool) → eqb k n ≡ t → (k < n → getD (build f n) k 0 ≡ f k) → getD (build f n ++ (f n ∷ [])) k 0 ≡ f k
-    go true e below = let same : k ≡ n = eqb-true k n e in rw same (getD-at (build f n) (f n) [] 0 n (length-build f n))
-    go false e below =
-        let other : k ≡ n → ⊥ = eqb-false k n e in
-        let h : k < n = omega arith in
-        let built : length (build f n) ≡ n = length-build f n in
-        List·getD-append (build f n) (f n ∷ []) 0 k (omega arith) ∙ below h
 
 slot-at : (f : ℕ → Standing) (k : ℕ) → k < 1024 → getD (slotsOf f) k 0 ≡ slotOf (f k)
 unfolding slotsOf

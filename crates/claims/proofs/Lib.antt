@@ -8,4 +8,5 @@ pub mod DriverReach
 pub mod BridgeToC
 pub mod Sizes
 pub mod BootMap
+pub mod FirstBitmap
 pub mod FirstPair

@@ -7,4 +7,5 @@ pub mod Found
 pub mod DriverCuts
 pub mod Sizes
 pub mod BootMap
+pub mod FirstBitmap
 pub mod FirstPair

@@ -1,7 +1,7 @@
 -- What making the first bitmap answers and leaves, at every input.
 use mathlib.Core.Bool.{Bool, cond, _&&_}
 use mathlib.Core.List.{List}
-use Prim.Native.Nat.{ℕ}
+use Prim.Native.Nat.{ℕ, _*_}
 use lib.Dec.{eqb}
 use lib.ListN.{length}
 use Rattle.bbt.specs.Entries.{firstBitmap}
@@ -12,9 +12,9 @@ use Rattle.chip.specs.declared.Refusal.the-variants.{Length}
 use Rattle.factory.specs.declared.BitmapAnswer.{BitmapAnswer}
 use Rattle.factory.specs.declared.BitmapAnswer.the-variants.{Made, Refused}
 
--- N marks, and room for N/4 bytes
+-- 2N marks, and room for N/4 bytes
 unfoldable pub marksLent : LargeChip → List ℕ → List ℕ → Bool
-marksLent chip marks room = eqb (length marks) (chip .blocks) && eqb (length room) (bitmapBytes chip)
+marksLent chip marks room = eqb (length marks) (2 * chip .blocks) && eqb (length room) (bitmapBytes chip)
 
 -- N and the region's size, then the lengths
 unfoldable pub firstAnswer : ℕ → ℕ → List ℕ → List ℕ → BitmapAnswer

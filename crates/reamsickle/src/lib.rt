@@ -136,7 +136,7 @@ pub extern "C" fn ream_boot_map(
     }
 }
 
-// The first bitmap of a chip of n blocks: n marks in, n/4 bytes out.
+// The first bitmap of a chip of n blocks: 2n marks in, n/4 bytes out.
 #[no_mangle]
 pub extern "C" fn ream_first_bitmap(n: u64, size: u64, marks: &[u8], bitmap: &mut [u8]) -> u64
     ensures answer { λ r. ⌜ r ≡ firstCode n size (now (marks .entry)) (now (bitmap .entry)) ⌝ }

@@ -1,12 +1,13 @@
 -- `fill_first` meets its contract: after i turns `bitmap` is filled with the first i bytes.
 -- Assumes nothing.
-use mathlib.Core.Path.{_≡_, refl, sym}
-use Prim.Native.Nat.{ℕ, _≤_, _-_}
+use mathlib.Core.Path.{_≡_, refl, sym, _∙_}
+use Prim.Native.Nat.{ℕ, _*_, _≤_, _-_}
 use native.Mathlib.Omega.{arith}
-use borrow.Author.Needs.{needs}
 use lib.ListN.{length, length-set}
 use Rattle.bits.proofs.Filling.{filled, fill-start, fill-turn, fill-end}
 use Rattle.bbt.specs.Entries.{firstByte}
+use Rattle.factory.specs.Marks.{firstAt}
+use Rattle.factory.proofs.First.{first-at-byte}
 use Rattle.factory.proofs.fill_first.Statement.{statement}
 use Rattle.factory.proofs.fill_first.Tie as tie
 
@@ -19,32 +20,11 @@ abbrev μ-loop : tie.MeasureT-loop
 loop-holds : tie.Need-loop-holds Inv-loop μ-loop
 loop-holds c = (omega arith, refl, sym (fill-start _ _))
 
-mul-at : tie.Need-mul-at Inv-loop μ-loop
-mul-at c = omega arith
+mul-first-at : tie.Need-mul-first-at Inv-loop μ-loop
+mul-first-at c = omega arith
 
-shared-slice-read-first-of : tie.Need-shared-slice-read-first-of Inv-loop μ-loop
-shared-slice-read-first-of c = omega arith
-
-add-first-of : tie.Need-add-first-of Inv-loop μ-loop
-add-first-of c = omega arith
-
-shared-slice-read-first-of-2 : tie.Need-shared-slice-read-first-of-2 Inv-loop μ-loop
-shared-slice-read-first-of-2 c = omega arith
-
-add-first-of-2 : tie.Need-add-first-of-2 Inv-loop μ-loop
-add-first-of-2 c = omega arith
-
-shared-slice-read-first-of-3 : tie.Need-shared-slice-read-first-of-3 Inv-loop μ-loop
-shared-slice-read-first-of-3 c = omega arith
-
-add-first-of-3 : tie.Need-add-first-of-3 Inv-loop μ-loop
-add-first-of-3 c = omega arith
-
-shared-slice-read-first-of-4 : tie.Need-shared-slice-read-first-of-4 Inv-loop μ-loop
-shared-slice-read-first-of-4 c = omega arith
-
-first-of-requires : tie.Need-first-of-requires Inv-loop μ-loop
-first-of-requires c κs = search needs
+first-at-requires : tie.Need-first-at-requires Inv-loop μ-loop
+first-at-requires c κs = omega arith
 
 slice-write-bitmap : tie.Need-slice-write-bitmap Inv-loop μ-loop
 slice-write-bitmap c = omega arith
@@ -56,8 +36,11 @@ loop-less : tie.Need-loop-less Inv-loop μ-loop
 loop-less c = omega arith
 
 loop-again : tie.Need-loop-again Inv-loop μ-loop
-unfolding firstByte
-loop-again c = (omega arith, simp length-set (c .before .before .before .before .before .before .loop .inv .1), rw (c .first-of .ensures, c .before .before .before .before .before .before .loop .inv .2) (fill-turn (firstByte (c .before .before .before .before .before .before .before .before .before .args .marks .now)) (c .before .before .before .before .before .before .before .before .before .args .bitmap .now) (c .before .before .before .before .before .before .loop .i) (omega arith)))
+loop-again c =
+    let x = c .before .before .before .before .before .args in
+    let l = c .before .before .loop in
+    let stored : c .first-at .result ≡ firstAt (x .marks .now) (8 * l .i) = c .first-at .ensures in
+    (omega arith, simp length-set (l .inv .1), rw (stored ∙ first-at-byte (x .marks .now) (l .i), l .inv .2) (fill-turn (firstByte (x .marks .now)) (x .bitmap .now) (l .i) (omega arith)))
 
 same-length : tie.Need-same-length Inv-loop μ-loop
 same-length c = c .before .loop .inv .1
@@ -72,15 +55,8 @@ fill-first-spec =
     Inv-loop
     μ-loop
     loop-holds
-    mul-at
-    shared-slice-read-first-of
-    add-first-of
-    shared-slice-read-first-of-2
-    add-first-of-2
-    shared-slice-read-first-of-3
-    add-first-of-3
-    shared-slice-read-first-of-4
-    first-of-requires
+    mul-first-at
+    first-at-requires
     slice-write-bitmap
     add-i
     loop-less
