@@ -24,11 +24,8 @@ pub mod PowerCuts
 pub mod CarriedOut
 -- one chip with two sizes of its region
 pub mod Sizes
--- that nothing is left out of the histories, that every settled table is a start, and three histories by number
+-- that nothing is left out of the histories, and that every settled table is a start
 pub mod AllBytes
 pub mod Putting
 pub mod Possible
 pub mod Starts
-pub mod Example
--- that the premise on unreadable first pages is needed
-pub mod Premise

@@ -15,5 +15,3 @@ pub mod CarriedOut
 pub mod Possible
 pub mod Starts
 pub mod Sizes
-pub mod Example
-pub mod Premise

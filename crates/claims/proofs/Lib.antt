@@ -1,4 +1,3 @@
-pub mod Starred
 pub mod Blocks
 pub mod ReadBack
 pub mod Dependence

@@ -1,4 +1,3 @@
-pub mod Examples
 pub mod Blocks
 pub mod ReadBack
 pub mod Dependence

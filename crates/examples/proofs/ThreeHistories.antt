@@ -11,24 +11,24 @@ use lib.Dec.{eqb, lit<}
 use lib.ListN.{drop, getD, replicate, length-append, length-replicate}
 use Rattle.bits.proofs.Both.{both-left, both-right}
 use Rattle.chip.specs.Large.{chipOf, isBlocks, isRegion}
 use Rattle.bbt.specs.declared.Kind.{Kind}
 use Rattle.bbt.specs.declared.Kind.the-variants.{Primary, Mirror}
 use Rattle.bbt.specs.Copies.{Table, also, find, good, highest, isMarked, isPage, pagePart, pageVersion, parts, readsBad, table}
 use Rattle.bbt.specs.Entries.{updatedByte, updatedBytes, updatedEntry}
-use Rattle.bbt.specs.Example.{chip8, oldTable, newTable, RunsTo, FailsTo, Examples}
+use Rattle.examples.specs.ThreeHistories.{chip8, oldTable, newTable, RunsTo, FailsTo, Examples}
 use Rattle.bbt.specs.Failures.{otherBlock, moved, movedTo, blockFails, stepFails, failure, failures}
 use Rattle.bbt.specs.Histories.{OthersKept, Written, Last, one-table, NewPrimary, Snapshot, pending, closed, asPlanned, as-closed, was-complete, was-not, snapshot, withFailed, answer, asked, empty, holding, world, update-planned, recovery-planned, step-done, step-cut, step-failed, History, start, next}
 use Rattle.bbt.specs.Images.{page-image, chunk, imageAt, imageData, imageTail, partImage, pageImage, planImage}
 use Rattle.bbt.specs.Lent.{lentPlan, planned, regionLent, statusesRight}
 use Rattle.bbt.specs.Pages.{all, badMark, badPage, kindOf, kindOfWord, pageBytes, pageOf, sameKind, seen, zeroOob}
 use Rattle.bbt.specs.Pairs.{bothCase, caseOf, compared, difference, pairCase, same, signedOf}
 use Rattle.bbt.specs.Plans.{erase, write, zeros, single, double, Plan, fresh, plan, writes, copySteps, jobSteps, stepsOf, stepAt, holds, readCase, reading, nextVersion, updated, updateFrom, update, member, target, recoverTo, recoverNewer, recoverCase, recovery, Call, for-update, for-recovery, planByRules}
 use Rattle.bbt.specs.Possible.{Bytes}
 use Rattle.bbt.specs.Regions.{Region, view, statusAt, bytesAt, Blank, Complete, Zeroed, Lost, Kept}
 use Rattle.bbt.proofs.LeftPages.{Judged, judge}
 use Rattle.bbt.proofs.Planning.{asked-is}
 use Rattle.bbt.proofs.Searches.{all-at, same-refl, same-eq}
 use Rattle.bbt.proofs.AllBytes.{below-replicate, bytes-append, bytes-replicate, image-bytes}
 
 ok8 : Judged chip8
 unfolding chipOf isBlocks isRegion

@@ -18,7 +18,7 @@ use Rattle.chip.specs.Boot.{pathOf, bootOf}
 use Rattle.chip.specs.Large.{chipOf, isBlocks, isRegion}
 use Rattle.ecc.specs.Half.{placeBit, counts, parity, codeBit, codeFrom}
 use Rattle.hamming.specs.Word.{notPowers, houseNumbers, checkBit, checkBits, encoded}
-use Rattle.claims.specs.Examples.{Holds, path, count, no-tag, All, maps, sizes, lastBlocks, table}
+use Rattle.examples.specs.Starred.{Holds, path, count, no-tag, All, maps, sizes, lastBlocks, table}
 use Rattle.spare.specs.Reading.{spareAnswer}
 use Rattle.spare.specs.Tags.{tags, nearest}
 use Rattle.spare.specs.Writing.{spareOf, magicAndCount}

@@ -6,11 +6,11 @@ use mathlib.Core.Option.{some}
 use mathlib.Core.Path.{_≡_}
 use Rattle.chip.specs.Large.{pagesOf}
 use Rattle.chip.specs.declared.Refusal.the-variants.{NoTarget}
 use Rattle.bbt.specs.Copies.{readsBad}
-use Rattle.bbt.specs.Example.{chip8, oldTable, newTable}
+use Rattle.examples.specs.ThreeHistories.{chip8, oldTable, newTable}
 use Rattle.bbt.specs.Histories.{OthersKept, snapshot, answer}
 use Rattle.bbt.specs.Plans.{erase, Plan, stepsOf, stepAt, refuse, plan, for-update, for-recovery, reading, holds}
 use Rattle.bbt.specs.Regions.{Region, view, Zeroed, Unreadable}
 
 pub record RefusedWithout (r s : Region chip8) : Type 0 where
   pub pair : reading chip8 (view r) ≡ holds 0 1 oldTable

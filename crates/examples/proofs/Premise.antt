@@ -7,22 +7,22 @@ use lib.Dec.{lit<}
 use lib.ListN.{replicate, length-replicate}
 use Rattle.chip.specs.Large.{chipOf, isBlocks, isRegion}
 use Rattle.chip.specs.declared.Refusal.the-variants.{NoTarget}
 use Rattle.bbt.specs.declared.Kind.the-variants.{Primary, Mirror}
 use Rattle.bbt.specs.Copies.{also, find, good, highest, isMarked, isPage, pagePart, pageVersion, parts, readsBad, table}
 use Rattle.bbt.specs.Entries.{updatedByte, updatedBytes, updatedEntry}
-use Rattle.bbt.specs.Example.{chip8, oldTable, newTable}
+use Rattle.examples.specs.ThreeHistories.{chip8, oldTable, newTable}
 use Rattle.bbt.specs.Failures.{failures}
 use Rattle.bbt.specs.Histories.{snapshot, answer}
 use Rattle.bbt.specs.Images.{chunk, imageData, imageTail, partImage, pageImage}
 use Rattle.bbt.specs.Lent.{lentPlan, planned, regionLent, statusesRight}
 use Rattle.bbt.specs.Pages.{all, badMark, badPage, kindOf, kindOfWord, pageBytes, pageOf, sameKind, seen, zeroOob}
 use Rattle.bbt.specs.Pairs.{bothCase, caseOf, compared, difference, pairCase, same, signedOf}
 use Rattle.bbt.specs.Plans.{double, fresh, refuse, plan, writes, copySteps, jobSteps, stepAt, holds, readCase, reading, nextVersion, updated, updateFrom, update, member, target, recoverTo, recoverCase, recovery, for-update, for-recovery, planByRules}
 use Rattle.bbt.specs.Possible.{Bytes}
-use Rattle.bbt.specs.Premise.{PremiseNeeded}
+use Rattle.examples.specs.Premise.{PremiseNeeded}
 use Rattle.bbt.specs.Regions.{Region, view, bytesAt}
 use Rattle.bbt.proofs.AllBytes.{below-replicate}
-use Rattle.bbt.proofs.Example.{of-old, region, keepsOthers, others-erased, zeros-shown}
+use Rattle.examples.proofs.ThreeHistories.{of-old, region, keepsOthers, others-erased, zeros-shown}
 
 -- ---- the two regions
 bad : Bytes 2112 (replicate 2112 0)
