@@ -30,8 +30,8 @@ use Rattle.chip.specs.declared.ChipAnswer.{ChipAnswer}
 use Rattle.chip.specs.declared.ChipAnswer.the-variants.{Chip, Refused as NoChip}
 use Rattle.chip.specs.declared.LargeChip.{LargeChip}
 use Rattle.plan.specs.Answers.{planAnswer}
-use Rattle.region.specs.Tables.{toldReading, tableAnswer}
-use Rattle.region.specs.declared.TableAnswer.the-variants.{Refused as NotRead}
+use Rattle.table.specs.Tables.{toldReading, tableAnswer}
+use Rattle.table.specs.declared.TableAnswer.the-variants.{Refused as NotRead}
 use Rattle.claims.specs.Blocks.{TableInRegion, StepInRegion, PlanInRegion, BlocksInRegion}
 
 -- what is found among the numbers below n is below n

@@ -18,9 +18,9 @@ use Rattle.chip.specs.declared.LargeChip.{LargeChip}
 use Rattle.images.specs.Made.{imageAnswerBy, imageAfterBy}
 use Rattle.packing.specs.Packing.{stepsPut}
 use Rattle.reamsickle.specs.LargeBoundary.{tableCodeBy, planCodeBy, stepsPutBy, imageCodeBy}
-use Rattle.region.proofs.Bridge.{read-bridged}
-use Rattle.region.specs.Tables.{toldReading, roomBy}
-use Rattle.region.specs.declared.TableAnswer.{TableAnswer}
+use Rattle.table.proofs.Bridge.{read-bridged}
+use Rattle.table.specs.Tables.{toldReading, roomBy}
+use Rattle.table.specs.declared.TableAnswer.{TableAnswer}
 use Rattle.claims.specs.Blocks.{TableInRegion}
 use Rattle.claims.specs.Driver.{versionIn, primaryIn, mirrorIn, stepByte, readTold}
 use Rattle.claims.specs.Found.{PlanFound, FindsPlans, TableFound, FindsTables, BridgeToC}

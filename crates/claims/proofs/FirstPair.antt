@@ -25,7 +25,7 @@ use Rattle.chip.specs.declared.Refusal.the-variants.{Length, Range, BadBlock, T
 use Rattle.images.specs.Made.{imageAnswerBy, imageAfterBy}
 use Rattle.packing.specs.Packing.{refusalCode}
 use Rattle.reamsickle.specs.LargeBoundary.{tableCodeBy, planCodeBy, imageCodeBy, tablePageCode}
-use Rattle.region.specs.Tables.{toldReading}
+use Rattle.table.specs.Tables.{toldReading}
 use Rattle.claims.specs.Driver.{refusalIn, planTold, readTold}
 use Rattle.claims.specs.FirstPair.{FirstPairInC}
 use Rattle.claims.proofs.Found.{plan-told, plan-answered, read-told}

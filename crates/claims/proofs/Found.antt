@@ -39,8 +39,8 @@ use Rattle.packing.specs.Packing.{refusalCode, stepBytes, planBytes, stepsPut}
 use Rattle.plan.proofs.Bridge.{bridged}
 use Rattle.reamsickle.proofs.Room.{plan-room}
 use Rattle.reamsickle.specs.LargeBoundary.{tableCodeBy, tableCode, planCodeBy, stepsPutBy, planCode, stepsAfter, imageCodeBy, imageCode, roomOf}
-use Rattle.region.proofs.Bridge.{read-bridged}
-use Rattle.region.specs.Tables.{toldReading, roomBy}
+use Rattle.table.proofs.Bridge.{read-bridged}
+use Rattle.table.specs.Tables.{toldReading, roomBy}
 use Rattle.claims.specs.Driver.{refusalIn, versionIn, stepsIn, DriverStep, erases, writes, zeroes, stepByte, stepBlock, driverStep, planTold, stepsTold, imageTold, pageTold, readTold, bitmapTold, tableTold}
 
 -- ---- a refusal's number is not 0

@@ -11,9 +11,9 @@ use Rattle.bbt.specs.declared.Step.{Step}
 use Rattle.bbt.specs.declared.Step.the-variants.{Erase, Write, Zero, Past}
 use Rattle.chip.specs.declared.LargeChip.{LargeChip}
 use Rattle.plan.specs.Answers.{planAnswer}
-use Rattle.region.specs.Tables.{tableAnswer}
-use Rattle.region.specs.declared.TableAnswer.{TableAnswer}
-use Rattle.region.specs.declared.TableAnswer.the-variants.{Read, Refused as NotRead}
+use Rattle.table.specs.Tables.{tableAnswer}
+use Rattle.table.specs.declared.TableAnswer.{TableAnswer}
+use Rattle.table.specs.declared.TableAnswer.the-variants.{Read, Refused as NotRead}
 
 abbrev pub TableInRegion : LargeChip → TableAnswer → Type 0
 TableInRegion chip (Read version primary mirror) = InRegion chip primary × InRegion chip mirror

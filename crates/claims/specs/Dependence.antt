@@ -10,7 +10,7 @@ use Rattle.chip.specs.declared.ChipAnswer.the-variants.{Chip}
 use Rattle.chip.specs.declared.LargeChip.{LargeChip}
 use Rattle.plan.specs.Answers.{planAnswer}
 use Rattle.plan.specs.PageImages.{imageAfter}
-use Rattle.region.specs.Tables.{tableAfter}
+use Rattle.table.specs.Tables.{tableAfter}
 use Rattle.reamsickle.specs.LargeBoundary.{tableCode, planCode, stepsAfter, imageCode}
 
 -- of images x and y under the same status bytes: ream_table_read, the plan entries, the page entries

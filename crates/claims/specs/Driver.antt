@@ -15,7 +15,7 @@ use Rattle.chip.specs.Large.{bitmapBytes, pagesOf}
 use Rattle.chip.specs.declared.LargeChip.{LargeChip}
 use Rattle.plan.specs.Answers.{planAnswer}
 use Rattle.plan.specs.PageImages.{imageAfter}
-use Rattle.region.specs.Tables.{tableAfter}
+use Rattle.table.specs.Tables.{tableAfter}
 use Rattle.reamsickle.specs.LargeBoundary.{tableCode, planCode, stepsAfter, imageCode}
 
 -- ---- an answer taken apart: ream_refusal, ream_version, ream_step_count, ream_primary_block, ream_mirror_block

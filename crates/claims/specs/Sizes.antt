@@ -10,7 +10,7 @@ use Rattle.bbt.specs.Sizes.{narrowed, lastImage, lastStatus, byPlace}
 use Rattle.chip.specs.Large.{chipOf, bitmapBytes}
 use Rattle.chip.specs.declared.ChipAnswer.the-variants.{Chip}
 use Rattle.chip.specs.declared.LargeChip.{LargeChip}
-use Rattle.region.specs.Tables.{tableAfter}
+use Rattle.table.specs.Tables.{tableAfter}
 use Rattle.reamsickle.specs.LargeBoundary.{tableCode}
 use Rattle.claims.specs.Driver.{refusalIn, primaryIn, mirrorIn, readTold, bitmapTold}
 

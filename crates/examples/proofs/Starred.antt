@@ -23,7 +23,7 @@ use Rattle.spare.specs.Reading.{spareAnswer}
 use Rattle.spare.specs.Tags.{tags, nearest}
 use Rattle.spare.specs.Writing.{spareOf, magicAndCount}
 use Rattle.spare.specs.declared.NearestTag.the-variants.{Missing}
-use Rattle.region.specs.Tables.{tableAnswer}
+use Rattle.table.specs.Tables.{tableAnswer}
 use Rattle.reamsickle.specs.Boundary.{spareCode}
 use Rattle.reamsickle.specs.LargeBoundary.{tableCode}
 use borrow.Author.Tests.{eq-eqb}

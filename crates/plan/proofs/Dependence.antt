@@ -13,8 +13,8 @@ use Rattle.chip.specs.declared.ChipAnswer.{ChipAnswer}
 use Rattle.chip.specs.declared.ChipAnswer.the-variants.{Chip, Refused as NoChip}
 use Rattle.chip.specs.declared.LargeChip.{LargeChip}
 use Rattle.images.specs.Made.{imageAnswerBy, imageAfterBy}
-use Rattle.region.specs.Tables.{toldReading, roomBy, tableAnswer, tableAfter}
-use Rattle.region.specs.declared.TableAnswer.the-variants.{Refused}
+use Rattle.table.specs.Tables.{toldReading, roomBy, tableAnswer, tableAfter}
+use Rattle.table.specs.declared.TableAnswer.the-variants.{Refused}
 use Rattle.plan.proofs.Bridge.{bridged}
 use Rattle.plan.specs.Answers.{planAnswer}
 use Rattle.plan.specs.Dependence.{PublicDependence}

@@ -1,6 +1,6 @@
 -- The bridge from the histories of demand 3 to the code that plans: for every call on the chip of N and the region's size, and room for a
 -- page, what the contracts of planning and of page images answer and leave is what a history asks for (`planned`, `imaged`).
--- `region/specs/Bridge.antt` has reading.
+-- `table/specs/Bridge.antt` has reading.
 use mathlib.Core.List.{List}
 use mathlib.Core.Path.{_≡_}
 use Prim.Native.Nat.{ℕ}

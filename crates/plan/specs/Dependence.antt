@@ -11,7 +11,7 @@ use Rattle.chip.specs.declared.ChipAnswer.the-variants.{Chip}
 use Rattle.chip.specs.declared.LargeChip.{LargeChip}
 use Rattle.plan.specs.Answers.{planAnswer}
 use Rattle.plan.specs.PageImages.{imageAnswer, imageAfter}
-use Rattle.region.specs.Tables.{tableAnswer, tableAfter}
+use Rattle.table.specs.Tables.{tableAnswer, tableAfter}
 
 -- of images x and y under the same status bytes: reading, planning, page images
 pub record SameAnswers (n size : ℕ) (status x y : List ℕ) : Type 0 where

@@ -20,9 +20,9 @@ use Rattle.images.specs.declared.ImageAnswer.{ImageAnswer}
 use Rattle.images.specs.declared.ImageAnswer.the-variants.{Made as ImageMade, Refused as NoImage}
 use Rattle.packing.specs.Packing.{refusalCode, stepsPut}
 use Rattle.plan.specs.PageImages.{imageAnswer}
-use Rattle.region.specs.Tables.{tableAnswer}
-use Rattle.region.specs.declared.TableAnswer.{TableAnswer}
-use Rattle.region.specs.declared.TableAnswer.the-variants.{Read, Refused as NotRead}
+use Rattle.table.specs.Tables.{tableAnswer}
+use Rattle.table.specs.declared.TableAnswer.{TableAnswer}
+use Rattle.table.specs.declared.TableAnswer.the-variants.{Read, Refused as NotRead}
 
 -- ---- ream_first_bitmap
 abbrev pub firstCodeBy : BitmapAnswer → ℕ

@@ -10,7 +10,7 @@ ghost use Rattle.plan.specs.Answers.{planAnswer};
 ghost use Rattle.plan.specs.PageImages.{imageAfter};
 ghost use Rattle.reamsickle.specs.Boundary.{halfCode, halfCodeAfter, writeCode, spareCode, spareFieldsAfter, pageCode, pageDataAfter, pageFieldsAfter, mapCode};
 ghost use Rattle.reamsickle.specs.LargeBoundary.{firstCode, tableCode, planCodeBy, stepsPutBy, planCode, stepsAfter, roomOf, imageCodeBy, imageCode, tablePageCode};
-ghost use Rattle.region.specs.Tables.{tableAfter};
+ghost use Rattle.table.specs.Tables.{tableAfter};
 ghost use Rattle.spare.specs.Writing.{spareAfter};
 use bbt::PlanAnswer;
 use boot::Listing;
@@ -22,9 +22,9 @@ use chip::SmallChip;
 use factory::BitmapAnswer;
 use images::ImageAnswer;
 use page::PageAnswer;
-use region::TableAnswer;
 use spare::SpareAnswer;
 use spare::WriteAnswer;
+use table::TableAnswer;
 
 // Bits 0 to 7 of the answer of a call that was not refused.
 const ANSWERED: u64 = 0;
@@ -160,7 +160,7 @@ pub extern "C" fn ream_table_read(
     ensures answer { λ r. ⌜ r ≡ tableCode n size (now (image .entry)) (now (status .entry)) (now (bitmap .entry)) ⌝ }
     ensures out { λ _. ⌜ now (bitmap .exit) ≡ tableAfter n size (now (image .entry)) (now (status .entry)) (now (bitmap .entry)) ⌝ }
 {
-    match region::read_table(n, size, image, status, bitmap) {
+    match table::read_table(n, size, image, status, bitmap) {
         TableAnswer::Refused(r) => packing::refusal_code(r),
         TableAnswer::Read(version, primary, mirror) => {
             256 * (version as u64)

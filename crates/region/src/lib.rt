@@ -1,4 +1,4 @@
-// The code that reads a lent region image: good copies, the pair's case, reading a settled pair, and the OOB bytes of a page.
+// The code that reads a lent region image: good copies, the pair's case, and the target of a copy.
 ghost use mathlib.Core.Bool.{true};
 ghost use mathlib.Core.Path.{_≡_};
 ghost use Prim.Native.Nat.{_+_, _*_, _<_, _≤_};
@@ -9,16 +9,12 @@ ghost use Rattle.bbt.specs.Pages.{kindOf, versionOf, pageBytes, pageStatus, zer
 ghost use Rattle.bbt.specs.Pairs.{same, compared, pairCase};
 ghost use Rattle.region.specs.Stored.{storedParts, storedTable};
 ghost use Rattle.bbt.specs.Told.{toldCase};
-ghost use Rattle.chip.specs.Large.{bitmapBytes, pagesOf};
+ghost use Rattle.chip.specs.Large.{pagesOf};
 ghost use Rattle.region.specs.Cases.{Fits, isSigned, pageMatches, alsoLocated, copiesIn, besideLent, caseOn, lentCase};
-ghost use Rattle.region.specs.Oob.{OobOf, extentOf, oobAnswer};
 ghost use Rattle.region.specs.Parts.{partOf};
-ghost use Rattle.region.specs.Tables.{tableAfter, tableAnswer};
 ghost use Rattle.region.specs.Targets.{isFreeBy, toldTarget, targetBy, targetOn, lentTarget};
 use bbt::Kind;
 use bbt::PairCase;
-use chip::ChipAnswer;
-use chip::ChipBlock;
 use chip::LargeChip;
 use chip::Refusal;
 use chip::RegionBlock;
@@ -415,118 +411,4 @@ pub fn find_target(
         return target_on(LargeChip::of(n, size), image, status, avoid);
     }
     TargetAnswer::Refused(Refusal::Range)
-}
-
-// Copies the bitmap of region block b.
-fn copy_bitmap(chip: LargeChip, image: &[u8], b: RegionBlock, out: &mut [u8])
-    requires { ⌜ (chip .region * pagesOf chip * 2112 ≤ length (now image)) × (0 < pagesOf chip) × (pagesOf chip ≤ 4) × (b .0 < chip .region) × (length (now out) ≡ bitmapBytes chip) ⌝ }
-    ensures { λ _. ⌜ now (out .exit) ≡ storedParts chip (now (image .entry)) (b .0) (pagesOf chip) ⌝ }
-{
-    let pages = chip.pages();
-    let mut from: usize = 0;
-    let mut p: u8 = 0;
-    while (p as usize) < pages {
-        let bytes = part(chip, image, b, p);
-        let end = from + bytes.len();
-        bits::copy(bytes, &mut out[from..end]);
-        from = end;
-        p += 1;
-    }
-}
-
-// What reading a pair tells: its version, the primary's block and the mirror's, or a refusal.
-pub enum TableAnswer {
-    Read(u8, ChipBlock, ChipBlock),
-    Refused(Refusal),
-}
-
-// Reads a settled pair: its bitmap goes into `bitmap`, which is left alone beside a refusal.
-pub fn read_table(n: u64, size: u64, image: &[u8], status: &[u8], bitmap: &mut [u8]) -> TableAnswer
-    ensures answer { λ r. ⌜ r ≡ tableAnswer n size (now (image .entry)) (now (status .entry)) (now (bitmap .entry)) ⌝ }
-    ensures out { λ _. ⌜ now (bitmap .exit) ≡ tableAfter n size (now (image .entry)) (now (status .entry)) (now (bitmap .entry)) ⌝ }
-{
-    match case_of(n, size, Beside::Bitmap(bitmap.len()), image, status) {
-        LentCase::Refused(r) => TableAnswer::Refused(r),
-        LentCase::Case(chip, c) => match c {
-            PairCase::Refused(r) => TableAnswer::Refused(r),
-            PairCase::Alone(_, _) => TableAnswer::Refused(Refusal::NotSettled),
-            PairCase::Settled(p, m) => {
-                copy_bitmap(chip, image, p, bitmap);
-                TableAnswer::Read(
-                    version(chip, image, p),
-                    bbt::chip_block(chip, p),
-                    bbt::chip_block(chip, m),
-                )
-            }
-            PairCase::Merging(_, _) => TableAnswer::Refused(Refusal::NotSettled),
-            PairCase::Differing(_, _, _) => TableAnswer::Refused(Refusal::NotSettled),
-        },
-    }
-}
-
-// How far a region image reaches: how many blocks the region has, and P, the pages of each. Both are 0 where N or
-// the region's size is refused.
-pub struct Extent {
-    pub region: u8,
-    pub pages: u8,
-}
-
-impl Extent {
-    // The extent of a region of `size` blocks, on a chip of n.
-    pub fn of(n: u64, size: u64) -> Extent
-        ensures { λ r. ⌜ r ≡ extentOf n size ⌝ }
-    {
-        match LargeChip::new(n, size) {
-            ChipAnswer::Refused(_) => Extent {
-                region: 0,
-                pages: 0,
-            },
-            ChipAnswer::Chip(chip) => Extent {
-                region: chip.region,
-                pages: chip.pages() as u8,
-            },
-        }
-    }
-}
-
-// What is told of a page's OOB bytes: they are given, or refused.
-pub enum OobAnswer {
-    Given,
-    Refused(Refusal),
-}
-
-// Judges a request for OOB bytes: N and the region's size, which are refused where P is 0, then the image's length, then block and page.
-pub fn oob_answer(extent: Extent, image: &[u8], block: RegionBlock, page: u8) -> OobAnswer
-    ensures { λ r. ⌜ r ≡ oobAnswer extent (length (now (image .entry))) (block .0) page ⌝ }
-{
-    if extent.pages == 0 {
-        return OobAnswer::Refused(Refusal::Range);
-    }
-    let bytes = (extent.region as usize) * (extent.pages as usize) * LargeChip::PAGE_WITH_OOB;
-    if image.len() != bytes {
-        return OobAnswer::Refused(Refusal::Length);
-    }
-    if extent.region <= block.0 {
-        return OobAnswer::Refused(Refusal::Range);
-    }
-    if extent.pages <= page {
-        return OobAnswer::Refused(Refusal::Range);
-    }
-    OobAnswer::Given
-}
-
-// The 64 OOB bytes of a page, as a part of the image; an empty part beside a refusal.
-pub fn oob(extent: Extent, image: &[u8], block: RegionBlock, page: u8) -> &[u8]
-    ensures { λ r. ⌜ OobOf extent (image .entry) (block .0) page r ⌝ }
-{
-    match oob_answer(extent, image, block, page) {
-        OobAnswer::Refused(_) => &image[..0],
-        OobAnswer::Given => {
-            let at = ((block.0 as usize) * (extent.pages as usize) + (page as usize))
-                * LargeChip::PAGE_WITH_OOB
-                + LargeChip::PAGE;
-            let end = at + LargeChip::OOB;
-            &image[at..end]
-        }
-    }
 }

@@ -9,7 +9,7 @@ use chip::ChipAnswer;
 use chip::LargeChip;
 use chip::RegionBlock;
 use libc::STDOUT_FILENO;
-use region::OobAnswer;
+use oob::OobAnswer;
 
 fn put(text: &[u8]) {
     io::write_all(STDOUT_FILENO, text);

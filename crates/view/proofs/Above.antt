@@ -49,8 +49,8 @@ use denote.Exit.{yes}
 use Rattle.chip.specs.declared.RegionBlock.{RegionBlock}
 use Rattle.chip.proofs.RegionBlock as R
 use Rattle.chip.proofs.RegionBlock.Laws as R′
-use Rattle.region.specs.Oob.{OobOf, extentOf, oobAnswer}
-use Rattle.region.specs.declared.Extent.{Extent}
+use Rattle.oob.specs.Oob.{OobOf, extentOf, oobAnswer}
+use Rattle.oob.specs.declared.Extent.{Extent}
 use Rattle.view.specs.declared.View.{View}
 use Rattle.view.specs.declared.Oob.{Oob}
 use Rattle.view.proofs.Asking.{Question, answer, part, Typed, imageTy, B, above, bare, sliced, Page, page}

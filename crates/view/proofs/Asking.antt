@@ -1,5 +1,5 @@
--- What can be asked of an extent, an image, a block and a page: the answer, and the part. For each there is region's function, on plain parameters, which `View::oob` calls,
--- and the one above the view, which makes a view and asks it. Their signatures, the contract of region's, and what the walks share.
+-- What can be asked of an extent, an image, a block and a page: the answer, and the part. For each there is `oob`'s function, on plain parameters, which `View::oob` calls,
+-- and the one above the view, which makes a view and asks it. Their signatures, the contract of `oob`'s, and what the walks share.
 -- Assumes nothing.
 use mathlib.Core.Path.{_≡_, refl}
 use Prim.Native.Nat.{ℕ, _<_, _^_}
@@ -33,11 +33,11 @@ use denote.Exit.{yes}
 use Rattle.chip.specs.declared.RegionBlock.{RegionBlock}
 use Rattle.chip.proofs.RegionBlock as R
 use Rattle.chip.proofs.RegionBlock.Laws as R′
-use Rattle.region.specs.Oob.{OobOf, oobAnswer}
-use Rattle.region.specs.declared.Extent.{Extent}
-use Rattle.region.proofs.Extent as X
-use Rattle.region.proofs.OobAnswer as E
-use Rattle.region.proofs.OobAnswer.Laws as E′
+use Rattle.oob.specs.Oob.{OobOf, oobAnswer}
+use Rattle.oob.specs.declared.Extent.{Extent}
+use Rattle.oob.proofs.Extent as X
+use Rattle.oob.proofs.OobAnswer as E
+use Rattle.oob.proofs.OobAnswer.Laws as E′
 use Rattle.view.proofs.View as T
 
 -- ---- the questions
@@ -71,14 +71,14 @@ module _ {M : Type 1} (𝓤 : URA M) (H : Heap 𝓤) (A : Atoms 𝓤) (W : Given
   pub part-typed : Typed part
   part-typed κs r u is = shr-slice-lawful 𝓤 H A W (named 0) (κs .0) u8 .typed r _ is .0
 
--- ---- the functions of a question: region's, and the one above the view
+-- ---- the functions of a question: `oob`'s, and the one above the view
 -- the view's type, over a signature's lifetimes
 abbrev pub B : Lfts 1 → RattleType
 B κs = T.the-row (namedLft 1 0 tt κs)
 
 module _ (Q : Question) where
-  abbrev pub region : Ended
-  region = record {
+  abbrev pub lower : Ended
+  lower = record {
     signature = record { lifetimes = 1; outlives = []; params = plain (λ _. X.the-row) ∷ Image ∷ plain (λ _. R.the-row) ∷ plain (λ _. u8) ∷ []; result = Q .result };
     kept = (yes, (yes, (yes, (yes, tt))));
   }
@@ -90,13 +90,13 @@ module _ (Q : Question) where
   }
 
   module _ {M : Type 1} (𝓤 : URA M) where
-    abbrev pub region-clauses : Clauses 𝓤 region
-    region-clauses κs a = record { ghost = Unit {0}; requires = λ _. emp 𝓤; ensures = λ _ r _. fact 𝓤 (Q .told κs (a .0) (a .1 .0) (a .1 .1 .0 .0) (a .1 .1 .1 .0) r) }
+    abbrev pub lower-clauses : Clauses 𝓤 lower
+    lower-clauses κs a = record { ghost = Unit {0}; requires = λ _. emp 𝓤; ensures = λ _ r _. fact 𝓤 (Q .told κs (a .0) (a .1 .0) (a .1 .1 .0 .0) (a .1 .1 .1 .0) r) }
 
-  -- region's as a triple, for a caller
+  -- `oob`'s as a triple, for a caller
   module _ {M : Type 1} (𝓤 : URA M) (H : Heap 𝓤) (A : Atoms 𝓤) where
-    abbrev pub Region : Contract 𝓤
-    Region = tripleOf 𝓤 H A (region .signature) (closing 𝓤 H A region (region-clauses 𝓤))
+    abbrev pub Lower : Contract 𝓤
+    Lower = tripleOf 𝓤 H A (lower .signature) (closing 𝓤 H A lower (lower-clauses 𝓤))
 
 -- ---- what the walks share
 -- a callee that requires nothing asks only what its parameters own

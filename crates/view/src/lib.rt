@@ -1,12 +1,12 @@
 // A view of a lent region image: a struct that holds the image itself, and thin functions over it, proved by hand. Asked for a
-// page, it leaves the work to functions of `region` with plain parameters, and hands back one struct. `answer_of` and `oob_of`
+// page, it leaves the work to functions of `oob` with plain parameters, and hands back one struct. `answer_of` and `oob_of`
 // make a view for one question: their callers have none in hand, and so no proof by hand.
 ghost use mathlib.Core.Path.{_≡_};
 ghost use lib.ListN.{length};
-ghost use Rattle.region.specs.Oob.{OobOf, extentOf, oobAnswer};
+ghost use Rattle.oob.specs.Oob.{OobOf, extentOf, oobAnswer};
 use chip::RegionBlock;
-use region::Extent;
-use region::OobAnswer;
+use oob::Extent;
+use oob::OobAnswer;
 
 // The lent image itself, and how far it reaches: P, and the number of region blocks. Both are 0 where N or
 // the region's size is refused.
@@ -37,8 +37,8 @@ impl<'a> View<'a> {
         ensures { λ r. ⌜ (r .answer ≡ oobAnswer (self .entry .extent) (length (now (self .entry .image))) (block .0) page) × OobOf (self .entry .extent) (self .entry .image) (block .0) page (r .part) ⌝ }
     {
         Oob {
-            answer: region::oob_answer(self.extent, self.image, block, page),
-            part: region::oob(self.extent, self.image, block, page),
+            answer: oob::oob_answer(self.extent, self.image, block, page),
+            part: oob::oob(self.extent, self.image, block, page),
         }
     }
 }

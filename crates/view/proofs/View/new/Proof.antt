@@ -37,14 +37,14 @@ use denote.Triple.Table.{entered, cited}
 use denote.Triple.Walked.{says, Stays, stay-none, stay-none-slice, walkOf, goes-none, goes-none-slice, ends-at, walked, walk-meets}
 use denote.Exit.{yes}
 use denote.Triple.Clauses.{ensured, lasts}
-use Rattle.region.specs.Oob.{extentOf}
-use Rattle.region.specs.declared.Extent.{Extent}
-use Rattle.region.proofs.Extent as X
-use Rattle.region.proofs.Extent.Laws as X′
-use Rattle.region.proofs.Extent.of as of
-use Rattle.region.proofs.Extent.of.Symbol as of-def
-use Rattle.region.proofs.Extent.of.Symbol.{name as #region·Extent·of}
-use Rattle.region.proofs.Extent.of.Met as of-thm
+use Rattle.oob.specs.Oob.{extentOf}
+use Rattle.oob.specs.declared.Extent.{Extent}
+use Rattle.oob.proofs.Extent as X
+use Rattle.oob.proofs.Extent.Laws as X′
+use Rattle.oob.proofs.Extent.of as of
+use Rattle.oob.proofs.Extent.of.Symbol as of-def
+use Rattle.oob.proofs.Extent.of.Symbol.{name as #oob·Extent·of}
+use Rattle.oob.proofs.Extent.of.Met as of-thm
 use Rattle.view.specs.declared.View.{View}
 use Rattle.view.proofs.Asking.{bare, sliced}
 use Rattle.view.proofs.View as T
@@ -95,10 +95,10 @@ module _ {M : Type 1} (𝓤 : URA M) (H : Heap 𝓤) (A : Atoms 𝓤) (W : Given
     said e = exE 𝓤 _ (λ ws. snd∗ 𝓤 (sem 𝓤 H A (lasts of.ended tt (x, (y, tt)) ws)) (fact 𝓤 (Told e)))
 
     -- after it the result is there, with what is told of it
-    asks : {K : Type 0} → K → x < 2 ^ 64 → y < 2 ^ 64 → {C : Calls 𝓤 H} {Λ : Loops 𝓤 H} → FmC 𝓤 H (W .laws) C → Triple 𝓤 (C #region·Extent·of) (Of 𝓤 H A mem run)
+    asks : {K : Type 0} → K → x < 2 ^ 64 → y < 2 ^ 64 → {C : Calls 𝓤 H} {Λ : Loops 𝓤 H} → FmC 𝓤 H (W .laws) C → Triple 𝓤 (C #oob·Extent·of) (Of 𝓤 H A mem run)
         → {Γ : List (Item 𝓤)} {E : Env 𝓤 H} {ops : List Operand} {dest : Place} {after : Body} {at-end : AtEnd 𝓤 H} → Opds K W (raw (Of 𝓤 H A mem run .pre to) ∷ Γ) E ops (Of 𝓤 H A mem run .args to)
         → ((w : Val) (e : Extent) → Told e → Is X.the-row e (w ∷ []) → Seq K W (‵ (X.the-row .own e (w ∷ [])) ∷ ‵ ftrue ∷ Γ) (lands C Λ E dest w after at-end))
-        → Seq K W Γ (runs C Λ E (seq (call #region·Extent·of ops dest) after) at-end)
+        → Seq K W Γ (runs C Λ E (seq (call #oob·Extent·of ops dest) after) at-end)
     asks t x-ok y-ok fm known os goes-on =
         nothing t $ owned t u64 (Is u64) (uint-makes 𝓤 H A W w64) y _ (refl, y-ok) $ fjoin t $ owned t u64 (Is u64) (uint-makes 𝓤 H A W w64) x _ (refl, x-ok) $ fjoin t $ nothing t $ use2 W (raw (Of 𝓤 H A mem run .pre to)) (bare 𝓤 _) $
         calls-at t fm (Of 𝓤 H A mem run) known to os (λ w.
@@ -125,7 +125,7 @@ module _ {M : Type 1} (𝓤 : URA M) (H : Heap 𝓤) (A : Atoms 𝓤) (W : Given
       -- [what image owns; what the extent owns; …]: together they are what the view owns
       move ! (1 ∷ 2 ∷ []) $ fjoin ! $ move ! (1 ∷ 0 ∷ []) $ fjoin ! $ by ! (makes 𝓤 H A W (ShrSlice (named 0) κ u8 ∷ X.the-row ∷ []) (fields-own e) (v ∷ [], (w ∷ [], tt)))
 
-  module _ (C : Calls 𝓤 H) (Λ : Loops 𝓤 H) (fm : FmC 𝓤 H (W .laws) C) (known : Triple 𝓤 (C #region·Extent·of) (Of 𝓤 H A mem run)) where
+  module _ (C : Calls 𝓤 H) (Λ : Loops 𝓤 H) (fm : FmC 𝓤 H (W .laws) C) (known : Triple 𝓤 (C #oob·Extent·of) (Of 𝓤 H A mem run)) where
     walk : Is (ShrSlice (named 0) κ u8) s (v ∷ []) → ent 𝓤 (onEntry 𝓤 H A new.signature (κ, tt) (q, tt) (n, (size, (s, tt))) at) (WpFn 𝓤 H C Λ code.function (vint w64 n ∷ vint w64 size ∷ v ∷ []) Post)
     walk p =
         qed W (raw (onEntry 𝓤 H A new.signature (κ, tt) (q, tt) (n, (size, (s, tt))) at) ∷ []) ∵ enter ! C Λ code.function (vint w64 n ∷ vint w64 size ∷ v ∷ []) _ $
@@ -140,7 +140,7 @@ module _ {M : Type 1} (𝓤 : URA M) (H : Heap 𝓤) (A : Atoms 𝓤) (W : Given
 
 -- the walk, taken to the contract
 meets : {M : Type 1} (𝓤 : URA M) (H : Heap 𝓤) (A : Atoms 𝓤) (W : Given 𝓤 H A) (mem : Memory → SProp 𝓤) (run : Routine → Fun 𝓤) (𝓣 : Tables 𝓤 H)
-    → Triple 𝓤 (𝓣 .C #region·Extent·of) (Of 𝓤 H A mem run)
+    → Triple 𝓤 (𝓣 .C #oob·Extent·of) (Of 𝓤 H A mem run)
     → Meets 𝓤 H A new.signature (WpFn 𝓤 H (𝓣 .C) (𝓣 .Λ) code.function) (new.spec 𝓤 H A mem run)
 meets 𝓤 H A W mem run 𝓣 known =
     walk-meets 𝓤 H A new.ended stayed W
@@ -158,4 +158,4 @@ new-spec 𝓤 H 𝓜 𝓖 𝓡 =
     entered 𝓤 H (tripleOf 𝓤 H (𝓖 .A) new.signature (new.spec 𝓤 H (𝓖 .A) (𝓜 .mem) (𝓡 .run)))
     (tables 𝓤 H 𝓜 𝓡 code.env .C) (tables 𝓤 H 𝓜 𝓡 code.env .Λ) #view·View·new code.function (code.unfolded 𝓤 H 𝓜 𝓡)
     (meets 𝓤 H (𝓖 .A) (givenOf 𝓤 H 𝓜 𝓖) (𝓜 .mem) (𝓡 .run) (tablesOf 𝓤 H 𝓜 (tables 𝓤 H 𝓜 𝓡 code.env))
-    (cited 𝓤 H (Of 𝓤 H (𝓖 .A) (𝓜 .mem) (𝓡 .run)) 𝓜 𝓡 code.env #region·Extent·of of-def.routine code.calls-region·Extent·of (of-thm.met 𝓤 H 𝓜 𝓖 𝓡)))
+    (cited 𝓤 H (Of 𝓤 H (𝓖 .A) (𝓜 .mem) (𝓡 .run)) 𝓜 𝓡 code.env #oob·Extent·of of-def.routine code.calls-oob·Extent·of (of-thm.met 𝓤 H 𝓜 𝓖 𝓡)))

@@ -1,4 +1,4 @@
--- `View::oob` meets its contract: a walk of its MIR, by hand. The view is taken apart twice, and region's two functions are called on its extent and its image, with the block and
+-- `View::oob` meets its contract: a walk of its MIR, by hand. The view is taken apart twice, and `oob`'s two functions are called on its extent and its image, with the block and
 -- the page; what they return makes the result. All that the walk knows of them is that each meets its contract. A view is Copy, so what it owns is had twice: whole for the exit, and opened for a callee.
 -- Assumes nothing.
 use mathlib.Core.Path.{_≡_, refl}
@@ -43,18 +43,18 @@ use denote.Exit.{yes}
 use Rattle.chip.specs.declared.RegionBlock.{RegionBlock}
 use Rattle.chip.proofs.RegionBlock as R
 use Rattle.chip.proofs.RegionBlock.Laws as R′
-use Rattle.region.specs.declared.OobAnswer.{OobAnswer}
-use Rattle.region.proofs.Extent.Laws as X′
-use Rattle.region.proofs.OobAnswer as E
-use Rattle.region.proofs.oob_answer.Symbol as answer-def
-use Rattle.region.proofs.oob_answer.Symbol.{name as #region·oob-answer}
-use Rattle.region.proofs.oob_answer.Met as answer-thm
-use Rattle.region.proofs.oob.Symbol as part-def
-use Rattle.region.proofs.oob.Symbol.{name as #region·oob}
-use Rattle.region.proofs.oob.Met as part-thm
+use Rattle.oob.specs.declared.OobAnswer.{OobAnswer}
+use Rattle.oob.proofs.Extent.Laws as X′
+use Rattle.oob.proofs.OobAnswer as E
+use Rattle.oob.proofs.oob_answer.Symbol as answer-def
+use Rattle.oob.proofs.oob_answer.Symbol.{name as #oob·oob-answer}
+use Rattle.oob.proofs.oob_answer.Met as answer-thm
+use Rattle.oob.proofs.oob.Symbol as part-def
+use Rattle.oob.proofs.oob.Symbol.{name as #oob·oob}
+use Rattle.oob.proofs.oob.Met as part-thm
 use Rattle.view.specs.declared.View.{View}
 use Rattle.view.specs.declared.Oob.{Oob}
-use Rattle.view.proofs.Asking.{Question, answer, part, answer-typed, part-typed, B, region, region-clauses, Region, bare, sliced, Page, page}
+use Rattle.view.proofs.Asking.{Question, answer, part, answer-typed, part-typed, B, lower, lower-clauses, Lower, bare, sliced, Page, page}
 use Rattle.view.proofs.View as T
 use Rattle.view.proofs.View.Laws as T′
 use Rattle.view.proofs.Oob as O
@@ -97,42 +97,42 @@ module _ {M : Type 1} (𝓤 : URA M) (H : Heap 𝓤) (A : Atoms 𝓤) (W : Given
   abbrev All : Fml
   All = owns (B (κ, tt) ∷ R.the-row ∷ u8 ∷ []) (d, (b, (p, tt))) at
 
-  -- ---- a call of region's function for a question, at page x
+  -- ---- a call of `oob`'s function for a question, at page x
   module _ (Q : Question) (x : ℕ) where
     abbrev Res : RattleType
     Res = Q .result .row (κ, tt)
 
     -- what the callee is passed
-    abbrev to : Region Q 𝓤 H A .Ghost
+    abbrev to : Lower Q 𝓤 H A .Ghost
     to = (((κ, tt), (q, tt), tt, (d .extent, (d .image, (b, (x, tt)))), (X′.lowered (d .extent) ∷ [], (sliced (d .image) ∷ [], (R′.lowered b ∷ [], (vint w8 x ∷ [], tt))))), tt)
 
     -- what the parameters own gives what the callee asks, and is kept
-    apart : x < 2 ^ 8 → ent 𝓤 Entry (sep 𝓤 (Region Q 𝓤 H A .pre to) (sem 𝓤 H A All))
+    apart : x < 2 ^ 8 → ent 𝓤 Entry (sep 𝓤 (Lower Q 𝓤 H A .pre to) (sem 𝓤 H A All))
     apart x-ok =
         qed W ((‵ (flft κ q) ⊛ ‵ ftrue) ∷ ‵ All ∷ []) ∵
         move ! (1 ∷ []) $ fsplit ! $ use1 W (‵ Own ⊛ ‵ Own) (LL.copy D (T′.the-copy α) 𝓤 H A W .twice d (mach ∷ [])) $ split ! $ move ! (0 ∷ 2 ∷ []) $ fjoin ! $ move ! (1 ∷ []) $
         use1 W (given (mach ∷ [] ≡ mach ∷ []) (‵ (all-own (D .parts) L (d .image, (d .extent, tt))))) (own-open 𝓤 H A W D L (d .image, (d .extent, tt)) mach) $ learn ! (λ _. fsplit ! $ move ! (1 ∷ []) $ fsplit ! $
         -- [what extent owns; …; what image owns; what the parameters own; the token]
         use0 W (‵ (Page b x)) (page 𝓤 H A W b x isb x-ok) $ move ! (3 ∷ 0 ∷ []) $ fjoin ! $ move ! (1 ∷ 0 ∷ []) $ fjoin ! $
-        move ! (3 ∷ 0 ∷ []) $ use2 W (raw (Region Q 𝓤 H A .pre to)) (bare 𝓤 _) $ frame ! $ keep ! (1 ∷ []) $ done !)
+        move ! (3 ∷ 0 ∷ []) $ use2 W (raw (Lower Q 𝓤 H A .pre to)) (bare 𝓤 _) $ frame ! $ keep ! (1 ∷ []) $ done !)
 
     abbrev Told : Res .Denot → Type 0
     Told r = Q .told (κ, tt) (d .extent) (d .image) (b .0) x r
 
     abbrev Ensured : Res .Denot → SProp 𝓤
-    Ensured r = ensured 𝓤 H A (region Q) (region-clauses Q 𝓤) (κ, tt) (d .extent, (d .image, (b, (x, tt)))) tt r
+    Ensured r = ensured 𝓤 H A (lower Q) (lower-clauses Q 𝓤) (κ, tt) (d .extent, (d .image, (b, (x, tt)))) tt r
 
     -- of the callee's `ensured`, the clause alone: it has no `&mut`, so what is said of last values is dropped
     said : (r : Res .Denot) → ent 𝓤 (Ensured r) (fact 𝓤 (Told r))
-    said r = exE 𝓤 _ (λ ws. snd∗ 𝓤 (sem 𝓤 H A (lasts (region Q) (κ, tt) (d .extent, (d .image, (b, (x, tt)))) ws)) (fact 𝓤 (Told r)))
+    said r = exE 𝓤 _ (λ ws. snd∗ 𝓤 (sem 𝓤 H A (lasts (lower Q) (κ, tt) (d .extent, (d .image, (b, (x, tt)))) ws)) (fact 𝓤 (Told r)))
 
     -- the call, with what is had at entry at the head: after it the result is there, with what is told of it, and the token and what the parameters own
-    asks : {K : Type 0} → K → x < 2 ^ 8 → {C : Calls 𝓤 H} {Λ : Loops 𝓤 H} → FmC 𝓤 H (W .laws) C → {key : Name} → Triple 𝓤 (C key) (Region Q 𝓤 H A)
-        → {Γ : List (Item 𝓤)} {E : Env 𝓤 H} {ops : List Operand} {dest : Place} {after : Body} {at-end : AtEnd 𝓤 H} → Opds K W (raw (Region Q 𝓤 H A .pre to) ∷ ‵ All ∷ Γ) E ops (Region Q 𝓤 H A .args to)
+    asks : {K : Type 0} → K → x < 2 ^ 8 → {C : Calls 𝓤 H} {Λ : Loops 𝓤 H} → FmC 𝓤 H (W .laws) C → {key : Name} → Triple 𝓤 (C key) (Lower Q 𝓤 H A)
+        → {Γ : List (Item 𝓤)} {E : Env 𝓤 H} {ops : List Operand} {dest : Place} {after : Body} {at-end : AtEnd 𝓤 H} → Opds K W (raw (Lower Q 𝓤 H A .pre to) ∷ ‵ All ∷ Γ) E ops (Lower Q 𝓤 H A .args to)
         → ((u : Val) (r : Res .Denot) → Told r → Is Res r (u ∷ []) → Seq K W (‵ (Res .own r (u ∷ [])) ∷ (‵ (flft κ q) ⊛ ‵ ftrue) ∷ ‵ All ∷ Γ) (lands C Λ E dest u after at-end))
         → Seq K W (raw Entry ∷ Γ) (runs C Λ E (seq (call key ops dest) after) at-end)
     asks t x-ok fm known os goes-on =
-        use1 W (raw (Region Q 𝓤 H A .pre to) ⊛ ‵ All) (apart x-ok) $ split t $ calls-at t fm (Region Q 𝓤 H A) known to os (λ u.
+        use1 W (raw (Lower Q 𝓤 H A .pre to) ⊛ ‵ All) (apart x-ok) $ split t $ calls-at t fm (Lower Q 𝓤 H A) known to os (λ u.
         use1 W (later (some (λ (r : Res .Denot). ((‵ (flft κ q) ⊛ ‵ ftrue) ⊛ ‵ (Res .own r (u ∷ []))) ⊛ raw (Ensured r)))) (id⊢ 𝓤 _) $ await t tt $ pick t (λ r.
         split t $ move t (1 ∷ []) $ use1 W (raw (fact 𝓤 (Told r))) (said r) $ heard t (Told r) (λ e. split t $ move t (1 ∷ []) $
         peeks t Res (Is Res) (shows 𝓤 H A Res) r (u ∷ []) (λ isr. goes-on u r e isr))))
@@ -159,7 +159,7 @@ module _ {M : Type 1} (𝓤 : URA M) (H : Heap 𝓤) (A : Atoms 𝓤) (W : Given
       -- [what the part owns; what the answer owns]: together they are what the result owns
       nothing ! $ move ! (1 ∷ 0 ∷ []) $ fjoin ! $ move ! (1 ∷ 0 ∷ []) $ fjoin ! $ by ! (makes 𝓤 H A W (E.the-row ∷ Part ∷ []) (fields-own r s) (u ∷ [], (w ∷ [], tt)))
 
-  module _ (C : Calls 𝓤 H) (Λ : Loops 𝓤 H) (fm : FmC 𝓤 H (W .laws) C) (known-answer : Triple 𝓤 (C #region·oob-answer) (Region answer 𝓤 H A)) (known-part : Triple 𝓤 (C #region·oob) (Region part 𝓤 H A)) where
+  module _ (C : Calls 𝓤 H) (Λ : Loops 𝓤 H) (fm : FmC 𝓤 H (W .laws) C) (known-answer : Triple 𝓤 (C #oob·oob-answer) (Lower answer 𝓤 H A)) (known-part : Triple 𝓤 (C #oob·oob) (Lower part 𝓤 H A)) where
     walk : Holds (hasTy (T′.mir (named 0)) mach) × WT mach → ent 𝓤 Entry (WpFn 𝓤 H C Λ code.function (mach ∷ R′.lowered b ∷ vint w8 p ∷ []) Post)
     walk wt =
         qed W (raw Entry ∷ []) ∵ enter ! C Λ code.function (mach ∷ R′.lowered b ∷ vint w8 p ∷ []) _ $
@@ -183,7 +183,7 @@ module _ {M : Type 1} (𝓤 : URA M) (H : Heap 𝓤) (A : Atoms 𝓤) (W : Given
 
 -- the walk, taken to the contract
 meets : {M : Type 1} (𝓤 : URA M) (H : Heap 𝓤) (A : Atoms 𝓤) (W : Given 𝓤 H A) (mem : Memory → SProp 𝓤) (run : Routine → Fun 𝓤) (𝓣 : Tables 𝓤 H)
-    → Triple 𝓤 (𝓣 .C #region·oob-answer) (Region answer 𝓤 H A) → Triple 𝓤 (𝓣 .C #region·oob) (Region part 𝓤 H A)
+    → Triple 𝓤 (𝓣 .C #oob·oob-answer) (Lower answer 𝓤 H A) → Triple 𝓤 (𝓣 .C #oob·oob) (Lower part 𝓤 H A)
     → Meets 𝓤 H A oob.signature (WpFn 𝓤 H (𝓣 .C) (𝓣 .Λ) code.function) (oob.spec 𝓤 H A mem run)
 meets 𝓤 H A W mem run 𝓣 known-answer known-part =
     walk-meets 𝓤 H A oob.ended stayed W
@@ -201,5 +201,5 @@ oob-spec 𝓤 H 𝓜 𝓖 𝓡 =
     entered 𝓤 H (tripleOf 𝓤 H (𝓖 .A) oob.signature (oob.spec 𝓤 H (𝓖 .A) (𝓜 .mem) (𝓡 .run)))
     (tables 𝓤 H 𝓜 𝓡 code.env .C) (tables 𝓤 H 𝓜 𝓡 code.env .Λ) #view·View·oob code.function (code.unfolded 𝓤 H 𝓜 𝓡)
     (meets 𝓤 H (𝓖 .A) (givenOf 𝓤 H 𝓜 𝓖) (𝓜 .mem) (𝓡 .run) (tablesOf 𝓤 H 𝓜 (tables 𝓤 H 𝓜 𝓡 code.env))
-    (cited 𝓤 H (Region answer 𝓤 H (𝓖 .A)) 𝓜 𝓡 code.env #region·oob-answer answer-def.routine code.calls-region·oob-answer (answer-thm.met 𝓤 H 𝓜 𝓖 𝓡))
-    (cited 𝓤 H (Region part 𝓤 H (𝓖 .A)) 𝓜 𝓡 code.env #region·oob part-def.routine code.calls-region·oob (part-thm.met 𝓤 H 𝓜 𝓖 𝓡)))
+    (cited 𝓤 H (Lower answer 𝓤 H (𝓖 .A)) 𝓜 𝓡 code.env #oob·oob-answer answer-def.routine code.calls-oob·oob-answer (answer-thm.met 𝓤 H 𝓜 𝓖 𝓡))
+    (cited 𝓤 H (Lower part 𝓤 H (𝓖 .A)) 𝓜 𝓡 code.env #oob·oob part-def.routine code.calls-oob·oob (part-thm.met 𝓤 H 𝓜 𝓖 𝓡)))

@@ -15,8 +15,8 @@ use Rattle.bbt.proofs.Searches.{all-intro}
 use Rattle.chip.specs.Large.{chipOf, bitmapBytes, regionPages, regionBytes}
 use Rattle.chip.specs.declared.ChipAnswer.the-variants.{Chip}
 use Rattle.chip.specs.declared.LargeChip.{LargeChip}
-use Rattle.region.specs.Bridge.{ReadBridged}
-use Rattle.region.specs.Tables.{toldReading, roomBy, tableAnswer, tableAfter}
+use Rattle.table.specs.Bridge.{ReadBridged}
+use Rattle.table.specs.Tables.{toldReading, roomBy, tableAnswer, tableAfter}
 
 module _ {chip : LargeChip} (r : Region chip) where
   lengths-right : regionLent chip (r .image) (r .status) ≡ true

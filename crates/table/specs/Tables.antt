@@ -6,8 +6,8 @@ use Rattle.bbt.specs.Plans.{Reading, refused, holds}
 use Rattle.bbt.specs.Told.{chipBlock}
 use Rattle.chip.specs.Large.{chipOf}
 use Rattle.chip.specs.declared.LargeChip.{LargeChip}
-use Rattle.region.specs.declared.TableAnswer.{TableAnswer}
-use Rattle.region.specs.declared.TableAnswer.the-variants.{Read, Refused}
+use Rattle.table.specs.declared.TableAnswer.{TableAnswer}
+use Rattle.table.specs.declared.TableAnswer.the-variants.{Read, Refused}
 
 -- what is told of a reading
 abbrev pub toldReading : LargeChip → Reading → TableAnswer

@@ -18,10 +18,10 @@ use Rattle.chip.specs.Refusals.{refusalNumber}
 use Rattle.chip.specs.declared.LargeChip.{LargeChip}
 use Rattle.chip.specs.declared.Refusal.{Refusal}
 use Rattle.chip.specs.declared.Refusal.the-variants.{Length, Range, BadBlock, Tag, Magic, Unrepairable, NoCopy, SeveralCopies, Opposite, NotSettled, NoTarget, ZeroFailed}
-use Rattle.region.specs.declared.Extent.{Extent}
-use Rattle.region.specs.declared.OobAnswer.{OobAnswer}
-use Rattle.region.specs.declared.OobAnswer.the-variants.{Given, Refused}
-use Rattle.region.specs.Oob.{extentOf, oobAnswer, JudgesChip, oobNumber, oobBytes, OobByNumber}
+use Rattle.oob.specs.declared.Extent.{Extent}
+use Rattle.oob.specs.declared.OobAnswer.{OobAnswer}
+use Rattle.oob.specs.declared.OobAnswer.the-variants.{Given, Refused}
+use Rattle.oob.specs.Oob.{extentOf, oobAnswer, JudgesChip, oobNumber, oobBytes, OobByNumber}
 
 pub judges-chip : (n size lent block page : ℕ) → JudgesChip n size lent block page
 unfolding chipOf extentOf oobAnswer

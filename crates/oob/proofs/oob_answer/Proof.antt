@@ -4,10 +4,10 @@ use Prim.Native.Nat.{_*_, _≤_}
 use native.Mathlib.Nat.{mul-le-mul-right}
 use native.Mathlib.Omega.{arith}
 use borrow.Author.Tests.{eq-eqb, ne-eqb, lt-ltb, le-ltb}
-use Rattle.region.specs.Oob.{oobAnswer}
+use Rattle.oob.specs.Oob.{oobAnswer}
 use borrow.Author.Needs.{needs}
-use Rattle.region.proofs.oob_answer.Statement.{statement}
-use Rattle.region.proofs.oob_answer.Tie as tie
+use Rattle.oob.proofs.oob_answer.Statement.{statement}
+use Rattle.oob.proofs.oob_answer.Tie as tie
 
 returns : tie.Need-returns
 unfolding oobAnswer

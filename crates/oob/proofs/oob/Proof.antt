@@ -5,11 +5,11 @@ use Prim.Native.Nat.{_+_, _*_, _≤_}
 use native.Mathlib.Nat.{add-sub-cancel-left}
 use native.Mathlib.Omega.{arith}
 use lib.ListN.{length}
-use Rattle.region.specs.Oob.{oobBytes, oobPlace}
-use Rattle.region.proofs.Extents.{given-inside}
+use Rattle.oob.specs.Oob.{oobBytes, oobPlace}
+use Rattle.oob.proofs.Extents.{given-inside}
 use borrow.Author.Needs.{needs}
-use Rattle.region.proofs.oob.Statement.{statement}
-use Rattle.region.proofs.oob.Tie as tie
+use Rattle.oob.proofs.oob.Statement.{statement}
+use Rattle.oob.proofs.oob.Tie as tie
 
 -- a page that is given lies in the image, so its OOB bytes do
 ends : (c : tie.After-struct-known2)

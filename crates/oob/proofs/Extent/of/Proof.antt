@@ -1,10 +1,10 @@
 -- `Extent::of` meets its contract: N and the region's size are judged, and the numbers are the chip's.
 -- Assumes nothing.
 use mathlib.Core.Path.{sym, _∙_}
-use Rattle.region.specs.Oob.{extentOf}
+use Rattle.oob.specs.Oob.{extentOf}
 use borrow.Author.Needs.{needs}
-use Rattle.region.proofs.Extent.of.Statement.{statement}
-use Rattle.region.proofs.Extent.of.Tie as tie
+use Rattle.oob.proofs.Extent.of.Statement.{statement}
+use Rattle.oob.proofs.Extent.of.Tie as tie
 
 new-requires : tie.Need-new-requires
 new-requires c κs = search needs

@@ -11,8 +11,8 @@ use Rattle.bbt.specs.Told.{chipBlock}
 use Rattle.chip.specs.Large.{chipOf, bitmapBytes}
 use Rattle.chip.specs.declared.ChipAnswer.the-variants.{Chip}
 use Rattle.chip.specs.declared.LargeChip.{LargeChip}
-use Rattle.region.specs.declared.TableAnswer.the-variants.{Read}
-use Rattle.region.specs.Tables.{toldReading, roomBy, tableAnswer, tableAfter}
+use Rattle.table.specs.declared.TableAnswer.the-variants.{Read}
+use Rattle.table.specs.Tables.{toldReading, roomBy, tableAnswer, tableAfter}
 
 pub record ReadBridge (n size : ℕ) (chip : LargeChip) (r : Region chip) : Type 0 where
   -- version and chip blocks of the pair, or the refusal

@@ -9,11 +9,11 @@ use borrow.Rule.Slice.PartMut.{putMid, same-len-mid}
 use lib.ListN.{length, take}
 use lib.Seq.{take-all}
 use Rattle.bbt.specs.Pages.{partLength}
 use Rattle.region.specs.Stored.{storedParts}
 use Rattle.chip.specs.Large.{bitmapBytes, pagesOf}
-use Rattle.region.proofs.Copying.{part-size, copy-next}
-use Rattle.region.proofs.copy_bitmap.Statement.{statement}
-use Rattle.region.proofs.copy_bitmap.Tie as tie
+use Rattle.table.proofs.Copying.{part-size, copy-next}
+use Rattle.table.proofs.copy_bitmap.Statement.{statement}
+use Rattle.table.proofs.copy_bitmap.Tie as tie
 
 abbrev Inv-loop : tie.InvT-loop
 Inv-loop chip image b out₀ pages from₀ p₀ out from p = (p ≤ pages) × (from ≡ min (2048 * p) (bitmapBytes chip)) × (length out ≡ bitmapBytes chip) × (take from out ≡ storedParts chip image (b .0) p)

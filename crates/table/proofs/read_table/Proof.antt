@@ -17,15 +17,15 @@ use Rattle.chip.specs.declared.ChipAnswer.the-variants.{Chip, Refused as NoChip
 use Rattle.chip.specs.declared.LargeChip.{LargeChip}
 use Rattle.chip.specs.declared.Refusal.{Refusal}
 use Rattle.chip.specs.declared.RegionBlock.{RegionBlock}
 use Rattle.region.specs.declared.Beside.the-variants.{Bitmap}
 use Rattle.region.specs.declared.LentCase.the-variants.{Case, Refused as NoCase}
-use Rattle.region.specs.declared.TableAnswer.the-variants.{Read, Refused}
+use Rattle.table.specs.declared.TableAnswer.the-variants.{Read, Refused}
 use Rattle.region.specs.Cases.{lentCase}
-use Rattle.region.specs.Tables.{toldReading, tableAnswer, roomBy, tableAfter}
+use Rattle.table.specs.Tables.{toldReading, tableAnswer, roomBy, tableAfter}
 use Rattle.region.proofs.Judged.{Known, case-known, judged-case, judged-out, known-valid, known-image, known-copies, known-reading, settled-reading}
 use borrow.Author.Needs.{needs}
-use Rattle.region.proofs.read_table.Statement.{statement}
-use Rattle.region.proofs.read_table.Tie as tie
+use Rattle.table.proofs.read_table.Statement.{statement}
+use Rattle.table.proofs.read_table.Tie as tie
 
 module _ (n size : ℕ) (image status room : List ℕ) where
   -- what was lent is refused: N and the region's size first

@@ -12,9 +12,9 @@ use Rattle.chip.specs.Large.{chipOf, pagesOf}
 use Rattle.chip.specs.Refusals.{refusalNumber}
 use Rattle.chip.specs.declared.LargeChip.{LargeChip}
 use Rattle.chip.specs.declared.Refusal.the-variants.{Range}
-use Rattle.region.specs.declared.Extent.{Extent}
-use Rattle.region.specs.declared.OobAnswer.{OobAnswer}
-use Rattle.region.specs.declared.OobAnswer.the-variants.{Given, Refused}
+use Rattle.oob.specs.declared.Extent.{Extent}
+use Rattle.oob.specs.declared.OobAnswer.{OobAnswer}
+use Rattle.oob.specs.declared.OobAnswer.the-variants.{Given, Refused}
 
 -- how far a chip's region image reaches; with N or the region's size refused, nowhere
 abbrev pub extentOn : LargeChip → Extent
