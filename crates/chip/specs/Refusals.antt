@@ -1,5 +1,6 @@
 -- Document 01, "Refusal numbers": the number of each refusal, and what comes with it.
-use Prim.Native.Nat.{ℕ}
+use mathlib.Core.Path.{_≡_}
+use Prim.Native.Nat.{ℕ, _<_}
 use Rattle.chip.specs.declared.BadKind.{BadKind}
 use Rattle.chip.specs.declared.BadKind.the-variants.{Factory, Late}
 use Rattle.chip.specs.declared.Half.{Half}
@@ -46,3 +47,11 @@ refusalDetail Opposite = 0
 refusalDetail NotSettled = 0
 refusalDetail NoTarget = 0
 refusalDetail ZeroFailed = 0
+
+-- a caller can tell refusals apart
+pub record ToldApart : Type 0 where
+  -- no number is 0, which says that a call was answered, and each fits a byte
+  pub above : (r : Refusal) → 0 < refusalNumber r
+  pub byte : (r : Refusal) → refusalNumber r < 256
+  -- no two have the same number and the same beside it
+  pub apart : (r q : Refusal) → refusalNumber r ≡ refusalNumber q → refusalDetail r ≡ refusalDetail q → r ≡ q

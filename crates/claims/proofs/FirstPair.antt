@@ -18,10 +18,12 @@ use Rattle.bbt.specs.declared.Kind.the-variants.{Primary}
 use Rattle.bringup.proofs.Pages.{primary-lent}
 use Rattle.bringup.specs.FirstPair.{OneCopy}
 use Rattle.bringup.specs.TablePages.{tablePageAnswer, tablePageAfter}
+use Rattle.chip.proofs.Telling.{refusalOf, refusal-back, told-apart}
 use Rattle.chip.specs.Large.{bitmapBytes, pagesOf}
+use Rattle.chip.specs.Refusals.{refusalNumber, refusalDetail}
 use Rattle.chip.specs.declared.LargeChip.{LargeChip}
 use Rattle.chip.specs.declared.Refusal.{Refusal}
-use Rattle.chip.specs.declared.Refusal.the-variants.{Length, Range, BadBlock, Tag, Magic, Unrepairable, NoCopy, SeveralCopies, Opposite, NotSettled, NoTarget, ZeroFailed}
+use Rattle.chip.specs.declared.Refusal.the-variants.{NoCopy, NotSettled}
 use Rattle.images.specs.Made.{imageAnswerBy, imageAfterBy}
 use Rattle.packing.specs.Packing.{refusalCode}
 use Rattle.reamsickle.specs.LargeBoundary.{tableCodeBy, planCodeBy, imageCodeBy, tablePageCode}
@@ -32,18 +34,10 @@ use Rattle.claims.proofs.Found.{plan-told, plan-answered, read-told}
 
 -- 7 is one refusal's number
 seven-is : (x : Refusal) → refusalIn (refusalCode x) ≡ 7 → x ≡ NoCopy
-seven-is Length e = absurd (omega arith)
-seven-is Range e = absurd (omega arith)
-seven-is (BadBlock k) e = absurd (omega arith)
-seven-is Tag e = absurd (omega arith)
-seven-is Magic e = absurd (omega arith)
-seven-is (Unrepairable h) e = absurd (omega arith)
-seven-is NoCopy e = refl
-seven-is SeveralCopies e = absurd (omega arith)
-seven-is Opposite e = absurd (omega arith)
-seven-is NotSettled e = absurd (omega arith)
-seven-is NoTarget e = absurd (omega arith)
-seven-is ZeroFailed e = absurd (omega arith)
+unfolding refusalOf
+seven-is x e =
+    let number : refusalNumber x ≡ 7 = omega (arith, told-apart .byte x) in
+    sym (refusal-back x) ∙ ap (λ (n : ℕ). refusalOf n (refusalDetail x)) number
 
 module _ {chip : LargeChip} (ok : Judged chip) where
   page : (t : Table) → AnyTable chip t → (p : ℕ) → p < pagesOf chip → (room : List ℕ) → length room ≡ 2112

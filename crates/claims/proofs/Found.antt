@@ -29,11 +29,11 @@ use Rattle.bbt.specs.Told.{chipBlock, toldPlan, toldAnswer, toldStep, toldSteps
 use Rattle.bbt.specs.declared.Kind.the-variants.{Mirror}
 use Rattle.bbt.specs.declared.Step.{Step as ToldStep}
 use Rattle.bbt.specs.declared.Step.the-variants.{Erase, Write, Zero, Past}
+use Rattle.chip.proofs.Telling.{told-apart}
 use Rattle.chip.specs.Large.{bitmapBytes, pagesOf}
-use Rattle.chip.specs.Refusals.{refusalNumber}
 use Rattle.chip.specs.declared.LargeChip.{LargeChip}
 use Rattle.chip.specs.declared.Refusal.{Refusal}
-use Rattle.chip.specs.declared.Refusal.the-variants.{Length, Range, BadBlock, Tag, Magic, Unrepairable, NoCopy, SeveralCopies, Opposite, NotSettled, NoTarget, ZeroFailed}
+use Rattle.chip.specs.declared.Refusal.the-variants.{Length}
 use Rattle.images.specs.Made.{imageAnswerBy, imageAfterBy}
 use Rattle.packing.specs.Packing.{refusalCode, stepBytes, planBytes, stepsPut}
 use Rattle.plan.proofs.Bridge.{bridged}
@@ -44,22 +44,8 @@ use Rattle.table.specs.Tables.{toldReading, roomBy}
 use Rattle.claims.specs.Driver.{refusalIn, versionIn, stepsIn, DriverStep, erases, writes, zeroes, stepByte, stepBlock, driverStep, planTold, stepsTold, imageTold, pageTold, readTold, bitmapTold, tableTold}
 
 -- ---- a refusal's number is not 0
-number-range : (x : Refusal) → (0 < refusalNumber x) × (refusalNumber x < 256)
-number-range Length = (omega arith, omega arith)
-number-range Range = (omega arith, omega arith)
-number-range (BadBlock k) = (omega arith, omega arith)
-number-range Tag = (omega arith, omega arith)
-number-range Magic = (omega arith, omega arith)
-number-range (Unrepairable h) = (omega arith, omega arith)
-number-range NoCopy = (omega arith, omega arith)
-number-range SeveralCopies = (omega arith, omega arith)
-number-range Opposite = (omega arith, omega arith)
-number-range NotSettled = (omega arith, omega arith)
-number-range NoTarget = (omega arith, omega arith)
-number-range ZeroFailed = (omega arith, omega arith)
-
 pub refusal-told : (x : Refusal) → refusalIn (refusalCode x) ≢ 0
-refusal-told x e = let h = number-range x in omega arith
+refusal-told x e = omega (arith, told-apart .above x, told-apart .byte x)
 
 -- ---- the four bytes of a step
 four-long : (s : ToldStep) → length (stepBytes s) ≡ 4

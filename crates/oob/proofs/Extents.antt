@@ -4,7 +4,7 @@
 use mathlib.Core.Bool.{Bool, true, false, cond, _&&_}
 use mathlib.Core.List.{List}
 use mathlib.Core.Path.{_≡_, refl, ap}
-use Prim.Native.Nat.{ℕ, suc, _+_, _*_, _<_, _≤_}
+use Prim.Native.Nat.{ℕ, suc, _+_, _*_, _≤_}
 use native.Mathlib.Nat.{mul-le-mul-right}
 use native.Mathlib.Omega.{arith}
 use borrow.Author.Tests.{eqb-true, ltb-true, ne-eqb}
@@ -13,11 +13,11 @@ use lib.ListN.{length, length-take, length-drop}
 use Rattle.bits.proofs.Both.{both-left, both-right}
 use Rattle.bbt.proofs.Raw.{pages-pos}
 use Rattle.bbt.specs.Lent.{judged}
+use Rattle.chip.proofs.Telling.{told-apart}
 use Rattle.chip.specs.Large.{isBlocks, isRegion, chipOf, pagesOf}
 use Rattle.chip.specs.Refusals.{refusalNumber}
 use Rattle.chip.specs.declared.LargeChip.{LargeChip}
-use Rattle.chip.specs.declared.Refusal.{Refusal}
-use Rattle.chip.specs.declared.Refusal.the-variants.{Length, Range, BadBlock, Tag, Magic, Unrepairable, NoCopy, SeveralCopies, Opposite, NotSettled, NoTarget, ZeroFailed}
+use Rattle.chip.specs.declared.Refusal.the-variants.{Range}
 use Rattle.oob.specs.declared.Extent.{Extent}
 use Rattle.oob.specs.declared.OobAnswer.{OobAnswer}
 use Rattle.oob.specs.declared.OobAnswer.the-variants.{Given, Refused}
@@ -51,20 +51,6 @@ given-inside e lent block page given = go (eqb (e .pages) 0) (eqb lent (e .regio
         let last : suc block * e .pages ≤ e .region * e .pages = mul-le-mul-right (e .pages) hb in
         omega (arith, last)
 
-number-above : (r : Refusal) → 0 < refusalNumber r
-number-above Length = omega arith
-number-above Range = omega arith
-number-above (BadBlock k) = omega arith
-number-above Tag = omega arith
-number-above Magic = omega arith
-number-above (Unrepairable h) = omega arith
-number-above NoCopy = omega arith
-number-above SeveralCopies = omega arith
-number-above Opposite = omega arith
-number-above NotSettled = omega arith
-number-above NoTarget = omega arith
-number-above ZeroFailed = omega arith
-
 pub oob-by-number : (e : Extent) (image : List ℕ) (block page : ℕ) → OobByNumber e image block page
 unfolding oobBytes
 oob-by-number e image block page = go (oobAnswer e (length image) block page) refl
@@ -74,6 +60,6 @@ oob-by-number e image block page = go (oobAnswer e (length image) block page) re
         let inside = given-inside e (length image) block page a in
         record { given = λ z. rw a (simp (length-take, length-drop) (omega arith)); refused = λ z. absurd (z (rw a)) }
     go (Refused r) a =
-        let above = number-above r in
+        let above = told-apart .above r in
         let number : oobNumber (oobAnswer e (length image) block page) ≡ refusalNumber r = ap oobNumber a in
         record { given = λ z. absurd (omega (arith, z)); refused = λ z. rw a }
