@@ -184,14 +184,14 @@
  *   whether a call was answered, ask ream_ok(), and do not compare the answer itself with 0: where the compiler
  *   can (gcc, clang), it warns of an answer that is dropped.
  *
- *   A refused call changes no lent byte, outputs included. Where several things are wrong at once the
- *   order of judging decides: N and size, or the number of small-chip blocks (2), then all lengths (1), then the
- *   other arguments (2), then what the page holds (3, 4, 5, 6), the boot blocks (13), or what the region holds
- *   (8, 7, 9, then 10 or 11). Then come the failed steps, oldest first: for each its number (2), whether it is a
- *   zero step (12), and whether there is a target (11); the first refusal that is met is the answer, and the list
- *   is not looked at further. The number of the step whose page is asked for (2) comes last of all. While N, size
- *   or the number of small-chip blocks is refused no length is judged. Each entry below names the refusals it can
- *   give, in its order.
+ *   A refused call changes no lent byte, outputs included. Where several things are wrong at once the order of
+ *   judging decides: N and size, or the number of small-chip blocks (2), then all lengths (1), then the other
+ *   arguments (2), then what the page holds (3, 4, one of 51 to 53, 6), the boot blocks (13), or what the region
+ *   holds (8, 7, 9, then 10 or 11). Then come the failed steps, oldest first: for each its number (2), whether it is
+ *   a zero step (12), and whether there is a target (11); the first refusal that is met is the answer, and the list
+ *   is not looked at further. The number of the step whose page is asked for (2) comes last of all. While N, size or
+ *   the number of small-chip blocks is refused no length is judged. Each entry below names the refusals it can give,
+ *   in its order.
  *
  * What the library cannot see, and the caller owes
  *
@@ -237,17 +237,19 @@ typedef char ream_needs_a_host_with_64_bits[sizeof(size_t) == 8 ? 1 : -1];
  * The library's own version, as text and as a number to compare: 10,000 * major + 100 * minor + patch.
  * (ream_version() gives that of a table or a plan.)
  */
-#define REAM_LIBRARY_VERSION "4.0"
-#define REAM_LIBRARY_VERSION_NUMBER 40000
+#define REAM_LIBRARY_VERSION "5.0"
+#define REAM_LIBRARY_VERSION_NUMBER 50000
 
-/* The refusals. */
+/* The refusals. Three stand in the place of 5, which is not given: see ream_not_ours(). */
 enum ream_refusal_number {
 	REAM_OK = 0,		/* answered */
 	REAM_LENGTH = 1,	/* a lent buffer's length is not the one named */
 	REAM_RANGE = 2,		/* a number is outside its range */
 	REAM_BAD_BLOCK = 3,	/* the status byte marks a bad block; detail: enum ream_bad_block */
 	REAM_TAG = 4,		/* the tag byte is not within one bit of a tag */
-	REAM_MAGIC = 5,		/* the magic, after repair, is not 56 hex */
+	REAM_ERASED = 51,	/* all 16 spare bytes are FF */
+	REAM_NOT_OURS = 52,	/* the count word needed no repair, and its magic is not 56 hex */
+	REAM_NOT_OURS_REPAIRED = 53,	/* the count word was repaired, and its magic is still not 56 hex */
 	REAM_UNREPAIRABLE = 6,	/* a half is not repairable; detail: enum ream_half */
 	REAM_NO_COPY = 7,	/* no good primary and no good mirror */
 	REAM_SEVERAL_COPIES = 8,	/* two or more good copies of one kind */
@@ -397,8 +399,16 @@ uint64_t ream_spare_write(const uint8_t *data, size_t data_len, uint64_t tag, ui
  * byte with a single 0 bit do not count. A word with two wrong bits comes out wrong, and no answer
  * tells: a word is put right for one wrong bit, and never refused.
  *
- * Refuses, in this order: REAM_LENGTH; REAM_BAD_BLOCK with its kind; REAM_TAG; REAM_MAGIC (which is
- * the answer for an erased page, all FF). spare is never changed.
+ * Refuses, in this order: REAM_LENGTH; REAM_BAD_BLOCK with its kind; REAM_TAG; then, if the magic, after repair, is
+ * not 56 hex, one of three:
+ *
+ *	REAM_ERASED		all 16 spare bytes are FF, as after an erase
+ *	REAM_NOT_OURS		the count word needed no repair: by its check bits it was written so
+ *	REAM_NOT_OURS_REPAIRED	the count word was repaired, in a data bit or a check bit, and its magic is still
+ *				another: it may be ours with several bits wrong
+ *
+ * So an erased spare with one bit at 0 is REAM_NOT_OURS, or REAM_NOT_OURS_REPAIRED if that bit is one of the count
+ * word's, other than its unused bit 5. ream_not_ours() takes the three for one. spare is never changed.
  */
 REAM_MUST_CHECK
 uint64_t ream_spare_read(const uint8_t *spare, size_t spare_len, uint8_t *fields, size_t fields_len);
@@ -415,9 +425,9 @@ uint64_t ream_spare_read(const uint8_t *spare, size_t spare_len, uint8_t *fields
  * its code, gives the data as written; two are refused. A half of which a code bit alone was wrong
  * counts as repaired, and its data stays as it is. The two low bits of a code's third byte are ignored.
  *
- * Refuses, in this order: REAM_LENGTH; REAM_BAD_BLOCK with its kind; REAM_TAG; REAM_MAGIC;
- * REAM_UNREPAIRABLE with the half. data is changed only by a call that is answered, so no half is
- * repaired when the other is refused. spare is never changed.
+ * Refuses, in this order: REAM_LENGTH; REAM_BAD_BLOCK with its kind; REAM_TAG; REAM_ERASED, REAM_NOT_OURS or
+ * REAM_NOT_OURS_REPAIRED, by the spare alone, whatever the data is; REAM_UNREPAIRABLE with the half. data is changed
+ * only by a call that is answered, so no half is repaired when the other is refused. spare is never changed.
  */
 REAM_MUST_CHECK
 uint64_t ream_page_read(uint8_t *data, size_t data_len, const uint8_t *spare, size_t spare_len,
@@ -659,6 +669,12 @@ static inline unsigned ream_detail(uint64_t answer)
 	return (unsigned)(answer >> 8 & 0xFFFFFF);
 }
 
+/* 1 for each of the three refusals of a spare whose magic is not 56 hex, which were one before 5.0; else 0. */
+static inline int ream_not_ours(unsigned refusal)
+{
+	return refusal >= REAM_ERASED && refusal <= REAM_NOT_OURS_REPAIRED;
+}
+
 /* The number of mapped blocks, in the answer of ream_boot_map(). */
 static inline unsigned ream_mapped_count(uint64_t answer)
 {
@@ -709,8 +725,12 @@ static inline const char *ream_refusal_text(unsigned refusal)
 		return "the block is marked bad";
 	case REAM_TAG:
 		return "the tag byte is not within one bit of a tag";
-	case REAM_MAGIC:
-		return "the magic is not 56 hex";
+	case REAM_ERASED:
+		return "the spare is erased, all FF";
+	case REAM_NOT_OURS:
+		return "the magic is not 56 hex, in a word that needed no repair";
+	case REAM_NOT_OURS_REPAIRED:
+		return "the magic is not 56 hex, in a word that was repaired";
 	case REAM_UNREPAIRABLE:
 		return "a half of the page is not repairable";
 	case REAM_NO_COPY:

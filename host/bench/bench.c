@@ -70,7 +70,7 @@ static double timed(struct bench *bench, const struct trial *trial, const struct
 		refusals |= trial->round(bench, by);
 	time = now() - start;
 	if (refusals != REAM_OK) {
-		printf("bench: %s refused one of its inputs: %s\n", trial->entry, trial->inputs);
+		printf("bench: %s did not answer one of its inputs as meant: %s\n", trial->entry, trial->inputs);
 		exit(EXIT_FAILURE);
 	}
 	return time / inputs / times;

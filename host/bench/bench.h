@@ -59,6 +59,7 @@ struct bench {
 	uint8_t flipped[PAGES][512];	/* with one data bit flipped */
 	uint8_t spare[PAGES][16];	/* as written */
 	uint8_t worn[PAGES][16];	/* with one bit of the path word flipped */
+	uint8_t not_ours[3][PAGES][16];	/* refused with 51, 52 and 53 */
 	uint8_t data[PAGES][512];	/* lent */
 	uint8_t made[16];
 	uint8_t fields[11];
@@ -87,7 +88,8 @@ struct bench {
 };
 
 /* A row of a table that is printed: an entry, on inputs that are lent anew for each round, with so many failed
- * steps. A round goes through all of them and gathers the refusals: one that is not 0 shows. */
+ * steps. A round goes through all of them and gathers the refusals, or how they differ from the one that is meant: one
+ * that is not 0 shows. */
 struct trial {
 	const char *entry;
 	const char *inputs;
@@ -113,7 +115,8 @@ double now(void);
 /* Of ROUNDS times. */
 double median(double *times);
 
-/* Draws the pages, writes their spares and flips one bit of each page and of each path word. */
+/* Draws the pages, writes their spares, flips one bit of each page and of each path word, and makes spares that are
+ * not ours. */
 void prepare_pages(struct bench *bench);
 
 /* The tables: the small chip's entries, the code of a half by all who can make it, the map of boot blocks, the large

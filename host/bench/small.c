@@ -60,6 +60,32 @@ static unsigned round_spare_read_worn(struct bench *bench, const struct implemen
 	return read_spares(bench, by, bench->worn);
 }
 
+/* Spares that are refused with this number. */
+static unsigned refuse_spares(struct bench *bench, const struct implementation *by, unsigned number)
+{
+	uint8_t (*spare)[16] = bench->not_ours[number - REAM_ERASED];
+	unsigned others = 0;
+
+	for (unsigned i = 0; i < PAGES; i++)
+		others |= ream_refusal(by->spare_read(spare[i], 16, bench->fields, 11)) ^ number;
+	return others;
+}
+
+static unsigned round_spare_erased(struct bench *bench, const struct implementation *by)
+{
+	return refuse_spares(bench, by, REAM_ERASED);
+}
+
+static unsigned round_spare_not_ours(struct bench *bench, const struct implementation *by)
+{
+	return refuse_spares(bench, by, REAM_NOT_OURS);
+}
+
+static unsigned round_spare_not_ours_repaired(struct bench *bench, const struct implementation *by)
+{
+	return refuse_spares(bench, by, REAM_NOT_OURS_REPAIRED);
+}
+
 static unsigned round_page_read(struct bench *bench, const struct implementation *by)
 {
 	unsigned refusals = 0;
@@ -77,11 +103,32 @@ static const struct trial small_trials[] = {
 	{ "ream_spare_write", "pages", 0, lend_clean, round_spare_write },
 	{ "ream_spare_read", "spares as written", 0, lend_clean, round_spare_read },
 	{ "ream_spare_read", "spares, one bit of the path word flipped", 0, lend_clean, round_spare_read_worn },
+	{ "ream_spare_read", "spares, erased: 51", 0, lend_clean, round_spare_erased },
+	{ "ream_spare_read", "spares, another magic: 52", 0, lend_clean, round_spare_not_ours },
+	{ "ream_spare_read", "spares, another magic, one bit flipped: 53", 0, lend_clean, round_spare_not_ours_repaired },
 	{ "ream_page_read", "pages as written", 0, lend_clean, round_page_read },
 	{ "ream_page_read", "pages, one data bit flipped", 0, lend_flipped, round_page_read },
 };
 
 enum { TRIALS = sizeof(small_trials) / sizeof(small_trials[0]) };
+
+/* The spares as written, with another magic: their count word is made as that of a path. */
+static void prepare_not_ours(struct bench *bench, uint64_t *state)
+{
+	memset(bench->not_ours, 0xFF, sizeof(bench->not_ours));
+	for (unsigned i = 0; i < PAGES; i++) {
+		uint8_t *clean = bench->not_ours[1][i], *repaired = bench->not_ours[2][i];
+		const uint64_t path = (uint64_t)0x65 << 18 | draw_below(state, 1 << 18);
+		uint8_t word[16];
+
+		ref_spare_write(bench->clean[i], 512, REAM_TAG_DATA, path, 0, word, 16);
+		memcpy(clean, bench->spare[i], 16);
+		memcpy(clean + 6, word, 2);
+		memcpy(clean + 11, word + 2, 2);
+		memcpy(repaired, clean, 16);
+		repaired[7] ^= (uint8_t)(1 << draw_below(state, 8));
+	}
+}
 
 void prepare_pages(struct bench *bench)
 {
@@ -103,6 +150,7 @@ void prepare_pages(struct bench *bench)
 
 		bench->worn[i][draw_below(&state, 3)] ^= (uint8_t)(1 << bit);
 	}
+	prepare_not_ours(bench, &state);
 	yard_table_make(&bench->table);
 }
 

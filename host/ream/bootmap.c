@@ -46,11 +46,17 @@ unsigned bootmap_generation(const struct boot_block *block)
 
 /* ---- what is passed over */
 
+/* What a page shows; whether a word was repaired makes no difference for one that is not ours. */
+static enum spare_kind shown(const struct spare *spare)
+{
+	return spare->kind == SPARE_NOT_OURS_REPAIRED ? SPARE_NOT_OURS : spare->kind;
+}
+
 /* What a block is passed over for: that either page is marked bad, else what both show. SPARE_KINDS where they show
  * something else each, or are boot pages, which have other boot numbers or generations then. */
 static enum spare_kind kind_of(const struct boot_block *block)
 {
-	const enum spare_kind first = block->first.kind, last = block->last.kind;
+	const enum spare_kind first = shown(&block->first), last = shown(&block->last);
 
 	if (first == SPARE_FACTORY || first == SPARE_LATE)
 		return first;

@@ -127,15 +127,20 @@ static void write_fields(struct json *json, const struct reading *reading)
 
 /* ---- refusals */
 
-static bool is_erased(const uint8_t *page)
-{
-	for (unsigned i = 0; i < PAGE; i++)
-		if (page[i] != 0xFF)
-			return false;
-	return true;
-}
-
 enum { DETAIL_LEN = 64 };
+
+/* Of a page with an erased spare: is its data erased too? */
+static void erased_detail(const uint8_t *data, char words[DETAIL_LEN])
+{
+	unsigned written = 0;
+
+	for (unsigned i = 0; i < DATA; i++)
+		written += data[i] != 0xFF;
+	if (written == 0)
+		snprintf(words, DETAIL_LEN, "the page is erased, all FF");
+	else
+		snprintf(words, DETAIL_LEN, "but %u data byte%s not FF", written, written == 1 ? " is" : "s are");
+}
 
 /* What a refusal is about, in words. */
 static void refusal_detail(const struct reading *reading, char words[DETAIL_LEN])
@@ -152,9 +157,15 @@ static void refusal_detail(const struct reading *reading, char words[DETAIL_LEN]
 	case REAM_TAG:
 		snprintf(words, DETAIL_LEN, "tag byte %02X", spare[4]);
 		break;
-	case REAM_MAGIC:
-		snprintf(words, DETAIL_LEN, "%s", is_erased(reading->found) ? "the page is erased, all FF"
-			 : "expected 56 in spare byte 6, or one bit from it");
+	case REAM_ERASED:
+		erased_detail(reading->found, words);
+		break;
+	case REAM_NOT_OURS:
+		snprintf(words, DETAIL_LEN, "magic %02X in spare byte 6", spare[6]);
+		break;
+	case REAM_NOT_OURS_REPAIRED:
+		snprintf(words, DETAIL_LEN, "magic %02X after the repair, %02X in spare byte 6", spare_magic(spare),
+			 spare[6]);
 		break;
 	case REAM_UNREPAIRABLE:
 		snprintf(words, DETAIL_LEN, "%s", detail == REAM_FIRST_HALF ? "the first half, bytes 0-255"

@@ -3,6 +3,7 @@
 
 #include <inttypes.h>
 #include <stdio.h>
+#include <string.h>
 
 /* ---- kinds */
 
@@ -26,23 +27,19 @@ static enum spare_kind kind_of_tag(uint8_t tag)
 	}
 }
 
-static bool is_erased(const uint8_t *bytes)
-{
-	for (unsigned i = 0; i < REAM_SMALL_SPARE_SIZE; i++)
-		if (bytes[i] != 0xFF)
-			return false;
-	return true;
-}
-
-static enum spare_kind kind_of_refusal(const uint8_t *bytes, uint64_t answer)
+static enum spare_kind kind_of_refusal(uint64_t answer)
 {
 	switch (ream_refusal(answer)) {
 	case REAM_BAD_BLOCK:
 		return ream_detail(answer) == REAM_FACTORY ? SPARE_FACTORY : SPARE_LATE;
 	case REAM_TAG:
 		return SPARE_NO_TAG;
+	case REAM_ERASED:
+		return SPARE_ERASED;
+	case REAM_NOT_OURS:
+		return SPARE_NOT_OURS;
 	default:
-		return is_erased(bytes) ? SPARE_ERASED : SPARE_NOT_OURS;
+		return SPARE_NOT_OURS_REPAIRED;
 	}
 }
 
@@ -54,9 +51,22 @@ struct spare spare_read(const uint8_t bytes[REAM_SMALL_SPARE_SIZE])
 
 	spare.fields = ream_fields_get(fields);
 	spare.tag_byte = bytes[4];
-	spare.kind = ream_refusal(answer) == REAM_OK ? kind_of_tag(spare.fields.tag)
-						     : kind_of_refusal(bytes, answer);
+	spare.kind = ream_refusal(answer) == REAM_OK ? kind_of_tag(spare.fields.tag) : kind_of_refusal(answer);
 	return spare;
+}
+
+/* The word is read in the place of a path, of a spare that is ours. */
+unsigned spare_magic(const uint8_t bytes[REAM_SMALL_SPARE_SIZE])
+{
+	static const uint8_t ours[REAM_SMALL_SPARE_SIZE] = {
+		0x00, 0x00, 0x00, 0x20, 0xFF, 0xFF, 0x56, 0x00, 0xFF, 0xFF, 0xFF, 0x00, 0x62, 0xFF, 0xFF, 0xFF,
+	};
+	uint8_t spare[REAM_SMALL_SPARE_SIZE];
+
+	memcpy(spare, ours, sizeof(spare));
+	memcpy(spare, bytes + 6, 2);
+	memcpy(spare + 2, bytes + 11, 2);
+	return spare_read(spare).fields.path >> 18;
 }
 
 /* ---- words */
@@ -68,7 +78,7 @@ const char *spare_word(enum spare_kind kind)
 		[SPARE_DATA_COPYING] = "data-copying", [SPARE_DATA] = "data",
 		[SPARE_BOOT_COPYING] = "boot-copying", [SPARE_BOOT] = "boot", [SPARE_FACTORY] = "bad (factory)",
 		[SPARE_LATE] = "bad (late)", [SPARE_NO_TAG] = "unknown tag", [SPARE_ERASED] = "erased",
-		[SPARE_NOT_OURS] = "not ours",
+		[SPARE_NOT_OURS] = "not ours", [SPARE_NOT_OURS_REPAIRED] = "not ours (repaired)",
 	};
 
 	return words[kind];

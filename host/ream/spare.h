@@ -20,8 +20,9 @@ enum spare_kind {
 	SPARE_FACTORY,
 	SPARE_LATE,
 	SPARE_NO_TAG,
-	SPARE_ERASED,		/* no magic, and all FF */
-	SPARE_NOT_OURS,		/* no magic otherwise */
+	SPARE_ERASED,		/* all FF */
+	SPARE_NOT_OURS,		/* another magic, in a word that needed no repair */
+	SPARE_NOT_OURS_REPAIRED,	/* another magic, in a word that was repaired */
 	SPARE_KINDS,
 };
 
@@ -36,6 +37,9 @@ enum { SPARE_LEN = 48 };
 
 /* Reads 16 bytes. */
 struct spare spare_read(const uint8_t bytes[REAM_SMALL_SPARE_SIZE]);
+
+/* The magic in 16 bytes after repair, 56 hex in those that are ours. */
+unsigned spare_magic(const uint8_t bytes[REAM_SMALL_SPARE_SIZE]);
 
 /* A kind in a word or two, and that of a tag. */
 const char *spare_word(enum spare_kind kind);

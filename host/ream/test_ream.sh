@@ -1951,12 +1951,44 @@ refuse() { # WORDS DETAIL OFFSET BYTES: a page with bytes changed, which is refu
 refuse "page: refused, 3: the block is marked bad" "status byte 00: marked by the factory" 517 '\000'
 refuse "page: refused, 3: the block is marked bad" "status byte FC: went bad in use (late)" 517 '\374'
 refuse "page: refused, 4: the tag byte is not within one bit of a tag" "tag byte 55" 516 '\125'
-refuse "page: refused, 5: the magic is not 56 hex" "expected 56 in spare byte 6" 518 '\145'
+refuse "page: refused, 52: the magic is not 56 hex, in a word that needed no repair" "magic 65 in spare byte 6" 518 '\145'
+refuse "page: refused, 53: the magic is not 56 hex, in a word that was repaired" \
+	"magic 65 after the repair, 64 in spare byte 6" 518 '\144'
 refuse "page: refused, 6: a half of the page is not repairable" "the first half, bytes 0-255" 0 '\374'
 refuse "page: refused, 6: a half of the page is not repairable" "the second half, bytes 256-511" 256 '\374'
+# a page that is not ours: erased; another magic, written so; another magic in spite of a repair
 ff 528 >erased_page
-expect 1 "page: refused, 5" page erased_page
-says "the page is erased, all FF"
+expect 1 "page: refused, 51: the spare is erased, all FF" page erased_page
+says "  the page is erased, all FF"
+cp erased_page flawed
+poke flawed 511 '\376'
+expect 1 "page: refused, 51: the spare is erased, all FF" page flawed
+says "  but 1 data byte is not FF"
+poke flawed 0 '\000\000'
+expect_none none 1 "page: refused, 51" page --repaired none flawed
+says "  but 3 data bytes are not FF"
+not_ours() { # NUMBER MAGIC STORED OFFSET BYTE: an erased page with a byte changed
+	cp erased_page flawed
+	poke flawed $((512 + $4)) "$5"
+	case $1 in
+	52) refuse_words="52: the magic is not 56 hex, in a word that needed no repair" detail="magic $2 in spare byte 6" ;;
+	53) refuse_words="53: the magic is not 56 hex, in a word that was repaired" \
+		detail="magic $2 after the repair, $3 in spare byte 6" ;;
+	esac
+	expect 1 "page: refused, $refuse_words" page flawed
+	check "the magic is told" grep -qx "  $detail" out
+}
+for place in 0 1 2 3 4 5 8 9 10 13 14 15; do
+	not_ours 52 FF FF $place '\376'
+done
+not_ours 52 FF FF 12 '\337'
+for byte in '\376' '\375' '\373' '\367' '\357' '\277' '\177'; do
+	not_ours 53 FF FF 12 "$byte"
+done
+not_ours 53 FF FE 6 '\376'
+not_ours 53 FF 7F 6 '\177'
+not_ours 53 FF FF 7 '\376'
+not_ours 53 FF FF 11 '\376'
 ff 527 >short_page
 expect 2 "short_page: ends at offset 527, expected 528 bytes, 512 of data and 16 of spare (refusal 1" page short_page
 expect 2 "page: is the file that is read" page --repaired page --force page
@@ -2156,6 +2188,14 @@ passed "bad (late)" "bad (late)" "$(spare_of 001 4 374)" "bad (late)"
 passed "unknown tag" "unknown tag 55" "$(spare_of 125 4)" "$differ"
 passed erased erased "$erased" "$differ"
 passed "not ours" "not ours" "$(spare_of 001 4 377 145)" "$differ"
+passed "not ours" "not ours (repaired)" "$(spare_of 001 4 377 144)" "$differ"
+# one page whose word needed no repair, and one whose word was repaired
+blocks_of 1:0 0:0 >passed_over
+poke passed_over 0 "$(spare_of 001 4 377 145)$(spare_of 001 4 377 144)"
+expect 0 "boot: 1 block mapped, 0 to erase" boot --spares --all passed_over
+check "neither page is ours" grep -qx "     1 not ours" out
+says "  block 0: first page not ours,"
+says "    last page not ours (repaired)"
 # a boot block of which the pages have other numbers or generations; a status byte with one 0 is good
 for path in 5 7 8 0; do
 	blocks_of 1:0 0:0 >passed_over
@@ -2423,7 +2463,15 @@ if command -v python3 >/dev/null && python3 -c 'import json' 2>/dev/null; then
 	json 1 page --repaired none counted
 	has "d['refusal']['number'] == 2" "d['count'] == 262143"
 	json 1 page erased_page
-	has "d['refusal']['number'] == 5" "d['detail'] == 'the page is erased, all FF'"
+	has "d['refusal'] == {'number': 51, 'text': 'the spare is erased, all FF'}" "d['detail'] == 'the page is erased, all FF'"
+	cp erased_page flawed
+	poke flawed 519 '\376'
+	json 1 page flawed
+	has "d['refusal']['number'] == 53" "d['detail'] == 'magic FF after the repair, FF in spare byte 6'"
+	poke flawed 519 '\377'
+	poke flawed 516 '\376'
+	json 1 page flawed
+	has "d['refusal']['number'] == 52" "d['detail'] == 'magic FF in spare byte 6'"
 	json 0 boot pairs_dump
 	has "d['command'] == 'boot'" "d['dump'] == {'name': 'pairs_dump', 'size': 101376, 'blocks': 6, 'spares_alone': False,
 		'pages_per_block': 32, 'pages_per_block_told': False}" "d['warnings'] == []" "d['refusal'] is None" \

@@ -8,14 +8,17 @@
 #include <stdbool.h>
 #include <string.h>
 
-/* "Refusal numbers". All return the number alone, 6 with the half and 3 with factory or late. */
+/* "Refusal numbers". All return the number alone, 6 with the half and 3 with factory or late. Request T-04 of document
+ * 02 has 51, 52 and 53 in the place of 5. */
 enum refusal {
 	ANSWERED = 0,
 	WRONG_LENGTH = 1,
 	OUT_OF_RANGE = 2,
 	BAD_STATUS = 3,
 	NO_TAG = 4,
-	NO_MAGIC = 5,
+	ALL_FF = 51,
+	WRONG_MAGIC = 52,
+	WRONG_MAGIC_REPAIRED = 53,
 	NOT_REPAIRABLE = 6,
 };
 
@@ -267,7 +270,21 @@ static uint32_t word_at(uint8_t first, uint8_t second, uint8_t third, uint8_t fo
 	return (uint32_t)first << 24 | (uint32_t)second << 16 | (uint32_t)third << 8 | fourth;
 }
 
-/* Refusals 3, 4 and 5, in this order, or the fields of a spare with the repairs of tag, path word and
+/* "51 when all 16 spare bytes are FF; 52 when the count word needed no repair and its magic is wrong; 53 when it was
+ * repaired and the magic is still wrong. 51 is tested before 52 and 53." */
+static enum refusal not_ours(const uint8_t *spare, const struct word *count)
+{
+	unsigned written = 0;
+
+	for (unsigned i = 0; i < 16; i++)
+		if (spare[i] != 0xFF)
+			written++;
+	if (written == 0)
+		return ALL_FF;
+	return count->repaired ? WRONG_MAGIC_REPAIRED : WRONG_MAGIC;
+}
+
+/* Refusals 3, 4, and 51 to 53, in this order, or the fields of a spare with the repairs of tag, path word and
  * count word. "Top 8 data bits are 56 hex, low 18 bits the erase count." */
 static uint64_t spare_judge(const uint8_t *spare, struct fields *fields)
 {
@@ -279,7 +296,7 @@ static uint64_t spare_judge(const uint8_t *spare, struct fields *fields)
 	if (!nearest_tag(spare[4], &fields->tag))
 		return refused(NO_TAG, 0);
 	if (count.data >> 18 != 0x56)
-		return refused(NO_MAGIC, 0);
+		return refused(not_ours(spare, &count), 0);
 
 	fields->status = spare[5];
 	fields->path = path.data;
@@ -311,7 +328,7 @@ static void fields_write(const struct fields *fields, uint8_t *bytes)
 	bytes[10] = (uint8_t)fields->repairs;
 }
 
-/* ---- the entries. Order of refusals: lengths, then other arguments, then 3, 4, 5, 6. */
+/* ---- the entries. Order of refusals: lengths, then other arguments, then 3, 4, one of 51 to 53, 6. */
 
 uint64_t ref_half_code(const uint8_t *half, size_t half_len, uint8_t *code, size_t code_len)
 {

@@ -66,20 +66,6 @@ void boots_write(struct test *test, struct boots *boots, unsigned block, uint8_t
 	boots_write_page(test, boots, block, LAST, tag, path);
 }
 
-/* The word that has magic and count is made as that of a path. */
-void boots_set_magic(struct test *test, struct boots *boots, unsigned block, enum lent_page page, uint8_t magic)
-{
-	static const uint8_t data[512];
-	uint8_t *spare = boots->spares[block][page];
-	uint8_t word[SPARE_BYTES];
-	const uint64_t path = (uint64_t)magic << 18 | draw_below(&test->state, 1 << 18);
-	const uint64_t answer = ream_spare_write(data, sizeof(data), REAM_TAG_BOOT, path, 0, word, SPARE_BYTES);
-
-	expect(test, ream_ok(answer), "a word with any magic is made");
-	memcpy(spare + 6, word, 2);
-	memcpy(spare + 11, word + 2, 2);
-}
-
 /* ---- laying out */
 
 static unsigned next_block(struct boots *boots)
@@ -167,7 +153,7 @@ static void pass_over(struct test *test, struct boots *boots, unsigned block, ui
 		boots->spares[block][passed == BAD_FIRST ? FIRST : LAST][5] = bad[bit % sizeof(bad)];
 		break;
 	case OTHER_MAGIC:
-		boots_set_magic(test, boots, block, page, (uint8_t)(0x56 ^ 1 << bit));
+		spare_set_magic(test, boots->spares[block][page], (uint8_t)(0x56 ^ 1 << bit));
 		break;
 	case OTHER_TAG:
 	case PASSED:

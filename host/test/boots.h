@@ -62,9 +62,6 @@ void boots_write_page(struct test *test, struct boots *boots, unsigned block, en
 		      uint32_t path);
 void boots_write(struct test *test, struct boots *boots, unsigned block, uint8_t tag, uint32_t path);
 
-/* Sets the magic of a page, which is 56 hex where it was written. */
-void boots_set_magic(struct test *test, struct boots *boots, unsigned block, enum lent_page page, uint8_t magic);
-
 /* ---- laying out, each in the next blocks */
 
 /* A block of this boot number. */

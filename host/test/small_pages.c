@@ -116,6 +116,19 @@ struct page page_drawn(struct test *test)
 	return page;
 }
 
+/* The word that has magic and count is made as that of a path. */
+void spare_set_magic(struct test *test, uint8_t *spare, uint8_t magic)
+{
+	static const uint8_t data[512];
+	const uint64_t path = (uint64_t)magic << 18 | draw_below(&test->state, 1 << 18);
+	uint8_t word[16];
+
+	expect(test, ream_ok(ream_spare_write(data, 512, REAM_TAG_BOOT, path, 0, word, 16)),
+	       "a word with any magic is made");
+	memcpy(spare + 6, word, 2);
+	memcpy(spare + 11, word + 2, 2);
+}
+
 /* ---- places */
 
 void flip(struct page *page, unsigned place)

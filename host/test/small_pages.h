@@ -60,6 +60,9 @@ struct page page_filled(struct test *test, uint8_t byte);
 /* A page with fields and data drawn. */
 struct page page_drawn(struct test *test);
 
+/* Gives a spare this magic, 56 hex where it was written, and any count. */
+void spare_set_magic(struct test *test, uint8_t *spare, uint8_t magic);
+
 /* ---- places. A page's bits are counted from bit 0 of data byte 0 to bit 7 of spare byte 15. */
 
 void flip(struct page *page, unsigned place);

@@ -282,7 +282,7 @@ static void try_spare_bytes(struct test *test, const struct boots *scene, enum t
 		expect_counted(test, &boots, tried, ones(byte) >= 7);
 		boots = *scene;
 		test->trying = "all magics of one page";
-		boots_set_magic(test, &boots, block, page, (uint8_t)byte);
+		spare_set_magic(test, boots.spares[block][page], (uint8_t)byte);
 		expect_counted(test, &boots, tried, byte == 0x56);
 	}
 }

@@ -135,18 +135,27 @@ static void try_answers(struct test *test)
 			       "a call was answered exactly where its refusal is 0");
 }
 
+/* Is it the number of a refusal, or 0? The documents have 1 to 13, with 51, 52 and 53 in the place of 5. */
+static bool is_known(unsigned refusal)
+{
+	return (refusal <= 13 && refusal != 5) || (refusal >= 51 && refusal <= 53);
+}
+
 /* Each refusal has a text of its own, and no other number has. */
 static void try_texts(struct test *test)
 {
 	const char *unknown = ream_refusal_text(UINT32_MAX);
 
 	test->trying = "the header's texts";
-	expect(test, REAM_ZERO_FAILED == 12 && REAM_BOOT_SET == 13, "the last refusals are 12 and 13");
+	expect(test, REAM_ZERO_FAILED == 12 && REAM_BOOT_SET == 13, "refusals 12 and 13");
+	expect(test, REAM_ERASED == 51 && REAM_NOT_OURS == 52 && REAM_NOT_OURS_REPAIRED == 53, "refusals 51 to 53");
 	for (unsigned refusal = 0; refusal < 300; refusal++) {
 		const char *text = ream_refusal_text(refusal);
 
-		expect(test, (strcmp(text, unknown) == 0) == (refusal > REAM_BOOT_SET), "the refusals have texts");
-		for (unsigned other = 0; other < refusal && refusal <= REAM_BOOT_SET; other++)
+		expect(test, (strcmp(text, unknown) != 0) == is_known(refusal), "the refusals have texts");
+		expect(test, ream_not_ours(refusal) == (refusal == 51 || refusal == 52 || refusal == 53),
+		       "the three that say that a page is not ours");
+		for (unsigned other = 0; other < refusal && is_known(refusal); other++)
 			expect(test, strcmp(text, ream_refusal_text(other)) != 0, "no two have the same");
 	}
 }

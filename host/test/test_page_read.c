@@ -12,13 +12,13 @@
 
 /* ---- the order of the refusals */
 
-enum { ORDER_STATUS = 4, ORDER_TAGS = 3, ORDER_WORDS = 3, ORDER_HALVES = 3 };
+enum { ORDER_STATUS = 4, ORDER_TAGS = 3, ORDER_WORDS = 4, ORDER_HALVES = 3 };
 
 /* A page with a chosen fault of each kind. */
 struct faults {
 	unsigned status;	/* good, one 0 bit, late, factory */
 	unsigned tag;		/* as written, one bit wrong, no tag */
-	unsigned magic;		/* as written, one bit wrong, wrong for good */
+	unsigned magic;		/* as written, one bit wrong, another, another with one bit wrong */
 	unsigned first;		/* flipped bits in the first half */
 	unsigned second;	/* flipped bits in the second half */
 };
@@ -26,7 +26,6 @@ struct faults {
 static struct page page_with_faults(struct test *test, const struct page *written, const struct faults *faults)
 {
 	static const uint8_t status[ORDER_STATUS] = { 0xFF, 0xEF, 0x9F, 0x20 };
-	static const uint8_t wrong_magic[4] = { 0xFF, 0xFF, 0xFF, 0xFF };
 	struct page page = *written;
 
 	page.spare[5] = status[faults->status];
@@ -34,12 +33,10 @@ static struct page page_with_faults(struct test *test, const struct page *writte
 		page.spare[4] ^= 0x10;
 	if (faults->tag == 2)
 		page.spare[4] = 0x55;
-	if (faults->magic == 1)
+	if (faults->magic >= 2)
+		spare_set_magic(test, page.spare, 0xFF);
+	if (faults->magic % 2 == 1)
 		page.spare[6] ^= 0x10;
-	if (faults->magic == 2) {
-		memcpy(page.spare + 6, wrong_magic, 2);
-		memcpy(page.spare + 11, wrong_magic + 2, 2);
-	}
 	for (unsigned half = 1; half <= 2; half++) {
 		const unsigned flips = half == 1 ? faults->first : faults->second;
 		const unsigned one = (unsigned)draw_below(&test->state, HALF_BITS - 1);
@@ -60,7 +57,9 @@ static uint64_t spare_refusal(const struct faults *faults)
 	if (faults->tag == 2)
 		return refusal(REAM_TAG, 0);
 	if (faults->magic == 2)
-		return refusal(REAM_MAGIC, 0);
+		return refusal(REAM_NOT_OURS, 0);
+	if (faults->magic == 3)
+		return refusal(REAM_NOT_OURS_REPAIRED, 0);
 	return REAM_OK;
 }
 

@@ -44,12 +44,102 @@ static void try_tag_and_status_examples(struct test *test)
 		expect_answer(test, refusal(REAM_BAD_BLOCK, REAM_FACTORY), "a factory bad block");
 	}
 
-	test->trying = "an erased page";
+}
+
+/* ---- spares that are not ours */
+
+/* A page whose spare is refused with this number alone, by itself and with the page's data. */
+static void expect_not_ours(struct test *test, const struct page *page, unsigned number)
+{
+	spare_read(test, page->spare);
+	expect_answer(test, number, "why a spare is not ours");
+	page_read(test, page);
+	expect_answer(test, number, "why a page is not ours");
+}
+
+static struct page page_erased(void)
+{
+	struct page page;
+
 	memset(&page, 0xFF, sizeof(page));
-	spare_read(test, page.spare);
-	expect_answer(test, REAM_MAGIC, "an erased page is refused");
-	page_read(test, &page);
-	expect_answer(test, REAM_MAGIC, "an erased page is refused");
+	return page;
+}
+
+/* A page with an erased spare, whatever its data is. */
+static void try_erased(struct test *test)
+{
+	struct page page = page_erased();
+
+	test->trying = "an erased page";
+	expect_not_ours(test, &page, REAM_ERASED);
+	test->trying = "an erased spare beside data that is not FF";
+	for (unsigned place = 0; place < DATA_BITS; place++) {
+		if (left_out(test))
+			continue;
+		page = page_erased();
+		flip(&page, place);
+		expect_not_ours(test, &page, REAM_ERASED);
+	}
+	for (unsigned i = 0; i < 200; i++) {
+		draw_bytes(&test->state, page.data, 512);
+		expect_not_ours(test, &page, REAM_ERASED);
+	}
+}
+
+/* All FF but one bit of the spare: the count word is repaired where it is one of that word's used bits, check bits
+ * included, and nothing else is. All FF but two bits is compared alone. */
+static void try_nearly_erased(struct test *test)
+{
+	unsigned repaired = 0;
+
+	test->trying = "all FF but one bit of the spare";
+	for (unsigned place = DATA_BITS; place < PAGE_BITS; place++) {
+		const bool in_count_word = part_of(place) == COUNT_WORD;
+		struct page page = page_erased();
+
+		flip(&page, place);
+		expect_not_ours(test, &page, in_count_word ? REAM_NOT_OURS_REPAIRED : REAM_NOT_OURS);
+		repaired += in_count_word;
+	}
+	expect(test, repaired == 31, "31 bits of the count word count");
+
+	test->trying = "all FF but two bits of the spare";
+	for (unsigned place = DATA_BITS; place < PAGE_BITS; place++) {
+		for (unsigned other = DATA_BITS; other < place; other++) {
+			struct page page = page_erased();
+
+			if (left_out(test))
+				continue;
+			flip(&page, place);
+			flip(&page, other);
+			spare_read(test, page.spare);
+			expect(test, test->answer != REAM_OK && test->answer != REAM_ERASED,
+			       "it is neither read nor erased");
+		}
+	}
+}
+
+/* Pages with every other magic in the count word, as it is written and with one flipped bit. */
+static void try_wrong_magics(struct test *test)
+{
+	test->trying = "all wrong magics";
+	for (unsigned magic = 0; magic < 256; magic++) {
+		struct page page = page_drawn(test);
+
+		if (magic == 0x56)
+			continue;
+		spare_set_magic(test, page.spare, (uint8_t)magic);
+		expect_not_ours(test, &page, REAM_NOT_OURS);
+		for (unsigned place = DATA_BITS; place < PAGE_BITS; place++) {
+			struct page flipped = page;
+			const enum part part = part_of(place);
+
+			if ((part != COUNT_WORD && place != DATA_BITS + 8 * 12 + 5) || left_out(test))
+				continue;
+			flip(&flipped, place);
+			expect_not_ours(test, &flipped, part == COUNT_WORD ? REAM_NOT_OURS_REPAIRED : REAM_NOT_OURS);
+		}
+	}
 }
 
 /* ---- other spares */
@@ -144,6 +234,9 @@ static void try_drawn_spares(struct test *test)
 void test_spare_read(struct test *test)
 {
 	try_tag_and_status_examples(test);
+	try_erased(test);
+	try_nearly_erased(test);
+	try_wrong_magics(test);
 	try_status_and_tag_bytes(test);
 	try_words(test);
 	try_drawn_spares(test);

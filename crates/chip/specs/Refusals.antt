@@ -6,15 +6,17 @@ use Rattle.chip.specs.declared.BadKind.the-variants.{Factory, Late}
 use Rattle.chip.specs.declared.Half.{Half}
 use Rattle.chip.specs.declared.Half.the-variants.{First, Second}
 use Rattle.chip.specs.declared.Refusal.{Refusal}
-use Rattle.chip.specs.declared.Refusal.the-variants.{Length, Range, BadBlock, Tag, Magic, Unrepairable, NoCopy, SeveralCopies, Opposite, NotSettled, NoTarget, ZeroFailed}
+use Rattle.chip.specs.declared.Refusal.the-variants.{Length, Range, BadBlock, Tag, Erased, NotOurs, NotOursRepaired, Unrepairable, NoCopy, SeveralCopies, Opposite, NotSettled, NoTarget, ZeroFailed}
 
--- the number in the table
+-- the number in the table; 51, 52 and 53 in place of 5 are document 02's (T-04), and so is 12 (T-07)
 abbrev pub refusalNumber : Refusal → ℕ
 refusalNumber Length = 1
 refusalNumber Range = 2
 refusalNumber (BadBlock k) = 3
 refusalNumber Tag = 4
-refusalNumber Magic = 5
+refusalNumber Erased = 51
+refusalNumber NotOurs = 52
+refusalNumber NotOursRepaired = 53
 refusalNumber (Unrepairable h) = 6
 refusalNumber NoCopy = 7
 refusalNumber SeveralCopies = 8
@@ -39,7 +41,9 @@ refusalDetail Length = 0
 refusalDetail Range = 0
 refusalDetail (BadBlock k) = badNumber k
 refusalDetail Tag = 0
-refusalDetail Magic = 0
+refusalDetail Erased = 0
+refusalDetail NotOurs = 0
+refusalDetail NotOursRepaired = 0
 refusalDetail (Unrepairable h) = halfNumber h
 refusalDetail NoCopy = 0
 refusalDetail SeveralCopies = 0

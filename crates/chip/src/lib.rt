@@ -242,7 +242,9 @@ pub enum Refusal {
     Range,
     BadBlock(BadKind),
     Tag,
-    Magic,
+    Erased,
+    NotOurs,
+    NotOursRepaired,
     Unrepairable(Half),
     NoCopy,
     SeveralCopies,
@@ -253,7 +255,7 @@ pub enum Refusal {
 }
 
 impl Refusal {
-    // Document 01's number of a refusal.
+    // The number of a refusal in documents 01 and 02.
     pub fn number(self) -> u8
         ensures { λ r. ⌜ r ≡ refusalNumber self ⌝ }
     {
@@ -262,7 +264,9 @@ impl Refusal {
             Refusal::Range => 2,
             Refusal::BadBlock(_) => 3,
             Refusal::Tag => 4,
-            Refusal::Magic => 5,
+            Refusal::Erased => 51,
+            Refusal::NotOurs => 52,
+            Refusal::NotOursRepaired => 53,
             Refusal::Unrepairable(_) => 6,
             Refusal::NoCopy => 7,
             Refusal::SeveralCopies => 8,
@@ -285,7 +289,9 @@ impl Refusal {
                 BadKind::Late => 2,
             },
             Refusal::Tag => 0,
-            Refusal::Magic => 0,
+            Refusal::Erased => 0,
+            Refusal::NotOurs => 0,
+            Refusal::NotOursRepaired => 0,
             Refusal::Unrepairable(h) => match h {
                 Half::First => 1,
                 Half::Second => 2,

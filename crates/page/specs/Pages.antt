@@ -47,7 +47,7 @@ abbrev pub bySpare : List ℕ → List ℕ → SpareAnswer → PageAnswer
 bySpare bytes s (SpareRefused r) = Refused r
 bySpare bytes s (SpareRead f) = byVerdicts f (found (firstHalf bytes) (storedCode First s)) (found (secondHalf bytes) (storedCode Second s))
 
--- the answer of reading a page: refusals 1, 3, 4, 5, 6 in this order
+-- the answer of reading a page: refusals 1, 3, 4, then one of 51 to 53, then 6
 unfoldable pub pageAnswer : List ℕ → List ℕ → PageAnswer
 pageAnswer bytes s = cond (eqb (length bytes) 512) (bySpare bytes s (spareAnswer s)) (Refused Length)
 

@@ -1,3 +1,4 @@
 pub mod Tagging
 pub mod Writables
 pub mod ReadBack
+pub mod WhyNotOurs

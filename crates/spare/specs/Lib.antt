@@ -3,3 +3,4 @@ pub mod Tags
 pub mod Reading
 pub mod Writing
 pub mod Claims
+pub mod WhyNotOurs

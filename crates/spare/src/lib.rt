@@ -3,7 +3,7 @@ ghost use mathlib.Core.Bool.{cond};
 ghost use mathlib.Core.Path.{_≡_};
 ghost use Prim.Native.Nat.{_+_, _≤_};
 ghost use lib.ListN.{length};
-ghost use Rattle.spare.specs.Reading.{pathWord, countWord, byWords, byTag, spareAnswer, spareRepairs};
+ghost use Rattle.spare.specs.Reading.{pathWord, countWord, isErased, notOurs, fieldsBy, byTag, spareAnswer, spareRepairs};
 ghost use Rattle.spare.specs.Status.{statusOf};
 ghost use Rattle.spare.specs.Tags.{tags, nearest, isIn};
 ghost use Rattle.spare.specs.Writing.{isWritable, spareOf, writeAnswer, spareAfter};
@@ -11,6 +11,7 @@ use chip::BadKind;
 use chip::Refusal;
 use chip::SmallChip;
 use hamming::Decoded;
+use hamming::Repair;
 
 // What a status byte tells of its block.
 pub enum Status {
@@ -107,14 +108,39 @@ pub enum SpareAnswer {
     Refused(Refusal),
 }
 
-// The answer where tag and words are known.
-fn by_words(spare: &[u8], tag: u8, path: Decoded, count: Decoded) -> SpareAnswer
+// Are all sixteen bytes FF? The bits in which they are not are gathered.
+fn is_erased(spare: &[u8]) -> bool
     requires { ⌜ length (now spare) ≡ 16 ⌝ }
-    ensures { λ r. ⌜ r ≡ byWords (now (spare .entry)) tag path count ⌝ }
+    ensures { λ r. ⌜ r ≡ isErased (now (spare .entry)) ⌝ }
 {
-    if count.bits / SmallChip::COUNTS != SmallChip::MAGIC {
-        return SpareAnswer::Refused(Refusal::Magic);
+    let mut other: u8 = 0;
+    let mut i: usize = 0;
+    while i < SmallChip::SPARE {
+        other = other | (spare[i] ^ 0xFF);
+        i += 1;
     }
+    other == 0
+}
+
+// Why a spare with a wrong magic is refused; the count word may have been repaired.
+fn not_ours(spare: &[u8], repair: Repair) -> Refusal
+    requires { ⌜ length (now spare) ≡ 16 ⌝ }
+    ensures { λ r. ⌜ r ≡ notOurs (now (spare .entry)) repair ⌝ }
+{
+    if is_erased(spare) {
+        return Refusal::Erased;
+    }
+    if repair.is_repair() {
+        return Refusal::NotOursRepaired;
+    }
+    Refusal::NotOurs
+}
+
+// What a spare tells where tag and words are known.
+fn fields_by(spare: &[u8], tag: u8, path: Decoded, count: Decoded) -> SpareFields
+    requires { ⌜ length (now spare) ≡ 16 ⌝ }
+    ensures { λ r. ⌜ r ≡ fieldsBy (now (spare .entry)) tag path count ⌝ }
+{
     let path_repair = path.repair;
     let count_repair = count.repair;
     let repaired = Repaired {
@@ -122,13 +148,13 @@ fn by_words(spare: &[u8], tag: u8, path: Decoded, count: Decoded) -> SpareAnswer
         path: path_repair.is_repair(),
         count: count_repair.is_repair(),
     };
-    SpareAnswer::Read(SpareFields {
+    SpareFields {
         status: spare[5],
         tag: tag,
         path: path.bits,
         count: count.bits % SmallChip::COUNTS,
         repaired: repaired,
-    })
+    }
 }
 
 // The path word.
@@ -147,14 +173,18 @@ fn count_word(spare: &[u8]) -> u32
     bits::word_of(spare[6], spare[7], spare[11], spare[12])
 }
 
-// The answer where the tag is known.
+// The answer where the tag is known. The path word is read only where the magic is right.
 fn by_tag(spare: &[u8], tag: u8) -> SpareAnswer
     requires { ⌜ length (now spare) ≡ 16 ⌝ }
     ensures { λ r. ⌜ r ≡ byTag (now (spare .entry)) (NearestTag.Found tag) ⌝ }
 {
-    let path = hamming::decode(path_word(spare));
     let count = hamming::decode(count_word(spare));
-    by_words(spare, tag, path, count)
+    if count.bits / SmallChip::COUNTS != SmallChip::MAGIC {
+        let repair = count.repair;
+        return SpareAnswer::Refused(not_ours(spare, repair));
+    }
+    let path = hamming::decode(path_word(spare));
+    SpareAnswer::Read(fields_by(spare, tag, path, count))
 }
 
 // Reads a spare.

@@ -1,6 +1,6 @@
 // Runs the examples of document 01 that are not in the proved table, and the published vectors, through the entries, and compares.
 // data/half-codes: a line is 256 bytes and the three of their code, in hexadecimal. data/spares: a line is 16 spare bytes, the answer's
-// number and detail, and the 11 bytes of fields, EE where they are left as they were. Writes a line for each file, for the erased page, for each number of blocks
+// number and detail, and the 11 bytes of fields, EE where they are left as they were. Writes a line for each file, for each page with an erased spare, for each number of blocks
 // and for each page that a view is asked for.
 ghost use mathlib.Core.Path.{_≡_};
 ghost use Prim.Native.Nat.{_*_, _<_};
@@ -154,13 +154,15 @@ fn run(name: &[u8], kind: Kind) {
     put(b" equal\n");
 }
 
-// Reading an erased page, all FF, is refusal 5.
-fn erased() {
-    let mut bytes = [0xFFu8; 512];
+// Reading a page with an erased spare, all FF, is refusal 51, whatever its data bytes are: here all are the same.
+fn erased(byte: u8) {
+    let mut bytes = [byte; 512];
     let spare = [0xFFu8; 16];
     let mut fields = [0u8; 11];
     let r = reamsickle::ream_page_read(&mut bytes, &spare, &mut fields);
-    put(b"erased page: refusal ");
+    put(b"erased spare, data ");
+    io::print_hex(STDOUT_FILENO, wide(byte), 2);
+    put(b": refusal ");
     io::print_decimal(STDOUT_FILENO, r);
     put(b"\n");
 }
@@ -291,7 +293,8 @@ fn numbers() {
 fn main() {
     run(b"half-codes", Kind::HalfCodes);
     run(b"spares", Kind::Spares);
-    erased();
+    erased(0xFF);
+    erased(0x00);
     numbers();
     marked_views();
 }
