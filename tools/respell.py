@@ -70,6 +70,16 @@ def declared(path, text):
     return found
 
 
+# The names that a file takes from a library, which spells them.
+def borrowed(text, crates):
+    found = set()
+    for m in re.finditer(r"\buse (\S+?)\.\{([^}]*)\}", text):
+        steps = m[1].split(".")
+        if steps[0] != "Rattle" or steps[1] not in crates:
+            found |= set(re.split(r",\s*| as ", m[2].strip()))
+    return found
+
+
 def answers(text):
     return {m[1] for m in re.finditer(rf"(?m)^(?:abbrev\s+)?(?:pub\s+)?({NAME})\s*:\s*(?:tie|goal)\.", text)}
 
@@ -151,7 +161,7 @@ class Turner:
         return "".join(out)
 
     # The clauses and imports of a source file: what stands between a clause's braces, and `ghost use` items.
-    def rt(self, text):
+    def rt(self, text, stay):
         out, at = [], 0
         while True:
             m = CLAUSE.search(text, at)
@@ -166,7 +176,7 @@ class Turner:
                     depth += {"{": 1, "}": -1}.get(text[end], 0)
                     end += 1
             out.append(text[m.start() : m.end()])
-            out.append(self.code(text[m.end() : end], of_rust=True))
+            out.append(self.code(text[m.end() : end], stay, of_rust=True))
             at = end
         out.append(self.comments(text[at:]))
         return "".join(out)
@@ -196,6 +206,7 @@ class Turner:
 def main():
     top = sys.argv[1]
     check = "--check" in sys.argv
+    crates = set(os.listdir(os.path.join(top, "crates")))
     turned, fields = table(top)
     by_new = collections.defaultdict(set)
     for a, b in turned.items():
@@ -209,7 +220,7 @@ def main():
     work = []
     for path in files(os.path.join(top, "crates"), ".antt"):
         text = read(path)
-        stay = answers(text) if of_a_function(path) else frozenset()
+        stay = borrowed(text, crates) | (answers(text) if of_a_function(path) else set())
         new = turner.antt(text, stay)
         used = words_of(text)
         for a in sorted(used & set(turned)):
@@ -219,7 +230,7 @@ def main():
         work.append((path, text, new))
     for path in files(os.path.join(top, "crates"), ".rt"):
         text = read(path)
-        work.append((path, text, turner.rt(text)))
+        work.append((path, text, turner.rt(text, borrowed(text, crates))))
     for path in files(os.path.join(top, "crates"), ".edit"):
         text = read(path)
         work.append((path, text, turner.edit(text)))

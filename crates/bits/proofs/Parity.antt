@@ -1,7 +1,7 @@
 -- Laws of `parity_of`: it is linear in the number and in what picks, and a count of ones tells it.
 -- Assumes nothing.
 use mathlib.Core.Path.{◌≡◌, refl, ◌∙◌, ap, ap₂, subst, sym}
-use mathlib.Core.Bool.{Bool, true, false, not, ◌&&◌, and_false, and_true}
+use mathlib.Core.Bool.{Bool, true, false, not, ◌&&◌, and-false, and-true}
 use Prim.Native.Nat.{ℕ, zero, suc, ◌+◌, ◌-◌, ◌/◌, ◌%◌, ◌<◌, ◌≤◌, ◌^◌}
 use native.Mathlib.Omega.{arith}
 use lib.Count.{ones, ones_cat}
@@ -33,7 +33,7 @@ parity_both (suc n) f g v =
 pub parity_none : (n v : ℕ) → parity_of n (λ b. false) v ≡ false
 unfolding parity_of
 parity_none zero v = refl
-parity_none (suc n) v = ap₂ (λ (x y : Bool). x ⊕ y) (and_false (bit n v)) (parity_none n v)
+parity_none (suc n) v = ap₂ (λ (x y : Bool). x ⊕ y) (and-false (bit n v)) (parity_none n v)
 
 pub parity_all : (n v : ℕ) (t : Bool) → parity_of n (λ b. t) v ≡ (parity_of n (λ b. true) v && t)
 parity_all n v true = sym (and_true' (parity_of n (λ b. true) v))
@@ -41,7 +41,7 @@ parity_all n v true = sym (and_true' (parity_of n (λ b. true) v))
     and_true' : (a : Bool) → (a && true) ≡ a
     and_true' true = refl
     and_true' false = refl
-parity_all n v false = parity_none n v ∙ sym (and_false (parity_of n (λ b. true) v))
+parity_all n v false = parity_none n v ∙ sym (and-false (parity_of n (λ b. true) v))
 
 -- a byte with one bit set
 pub parity_one : (g : ℕ → Bool) (b : ℕ) → b < 8 → parity_of 8 g (2 ^ b) ≡ g b
@@ -55,7 +55,7 @@ parity_one g =
 pub parity_mask : (n v m : ℕ) → parity_of n (λ i. bit i m) v ≡ parity_of n (λ i. true) (bit_and v m)
 unfolding parity_of
 parity_mask zero v m = refl
-parity_mask (suc n) v m = ap₂ ◌⊕◌ (sym (and_true (bit n (bit_and v m)) ∙ bit-and n v m)) (parity_mask n v m)
+parity_mask (suc n) v m = ap₂ ◌⊕◌ (sym (and-true (bit n (bit_and v m)) ∙ bit-and n v m)) (parity_mask n v m)
 
 -- what is picked is the mask of the bits picked
 pub parity_number : (n k : ℕ) (g : ℕ → Bool) (v : ℕ) → n ≤ k → parity_of n g v ≡ parity_of n (λ i. bit i (number k g)) v
@@ -74,7 +74,7 @@ pub parity_ones : (n v : ℕ) → v < 2 ^ n → parity_of n (λ i. true) v ≡ e
 unfolding parity_of ones bit
 parity_ones zero v h = let e : v ≡ 0 = omega arith in ap (λ (x : ℕ). eqb (ones x % 2) 1) (sym e)
 parity_ones (suc n) v h =
-    ap₂ ◌⊕◌ (and_true (bit n v)) (sym (parity_low n n (λ i. true) v (omega arith)) ∙ parity_ones n (v % 2 ^ n) (mod-lt v (pow_pos n)))
+    ap₂ ◌⊕◌ (and-true (bit n v)) (sym (parity_low n n (λ i. true) v (omega arith)) ∙ parity_ones n (v % 2 ^ n) (mod-lt v (pow_pos n)))
     ∙ top (v / 2 ^ n) (ones (v % 2 ^ n)) (shr_lt 1 n (subst (λ (m : ℕ). v < 2 ^ m) (sym (one-add n)) h))
     ∙ ap (λ (m : ℕ). eqb (m % 2) 1) (sym (ones_cat n (v / 2 ^ n) (v % 2 ^ n) (mod-lt v (pow_pos n))) ∙ ap ones (split v n))
   where

@@ -5,7 +5,7 @@ use mathlib.Core.Path.{◌≡◌, refl, sym, ◌∙◌, ap}
 use Prim.Native.Nat.{ℕ, ◌-◌, ◌≤◌}
 use native.Mathlib.Nat.{sub-zero}
 use native.Mathlib.Omega.{arith}
-use borrow.Author.Tests.{not_true, not-false}
+use borrow.Author.Tests.{not-true, not-false}
 use Rattle.boot.specs.Mapping.{in_order, first_not}
 use Rattle.boot.specs.Slots.{in_slot}
 use Rattle.boot.proofs.Searching.{first_not_turn, first_not_end}
@@ -39,7 +39,7 @@ returns c =
     let start = c.before.before.before.before.before.before.before in
     let turn = c.before.before.before.before.before.loop in
     let out : in_order (in_slot start.args.slots.now turn.k) ≡ false =
-    sym (c.before.in_order.ensures ∙ ap in_order c.before.before.of-slot.ensures) ∙ not_true _ c.if1.true in
+    sym (c.before.in_order.ensures ∙ ap in_order c.before.before.of-slot.ensures) ∙ not-true _ c.if1.true in
     sym (turn.invariant.1 ∙ first_not_turn (λ i. in_order (in_slot start.args.slots.now i)) turn.k start.args.end (omega arith) ∙ rw out refl)
 
 add-k : tie.Need-overflow-add-k invariant-loop decreases-loop

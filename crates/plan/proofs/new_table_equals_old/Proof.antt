@@ -1,12 +1,12 @@
 -- `new_table_equals_old` meets its contract: the parts before page p are kept or not, as `kept` says.
 -- Assumes nothing.
-use mathlib.Core.Bool.{◌&&◌, and_true, and_false}
+use mathlib.Core.Bool.{◌&&◌, and-true, and-false}
 use mathlib.Core.Logic.{⊎_elim}
 use mathlib.Core.Path.{◌≡◌, refl, ◌∙◌, ap, ap₂, sym}
 use Prim.Native.Nat.{◌*◌, ◌-◌, ◌<◌, ◌≤◌}
 use native.Mathlib.Omega.{arith}
 use borrow.Author.Rules.{rules}
-use borrow.Author.Tests.{not_true, not-false}
+use borrow.Author.Tests.{not-true, not-false}
 use lib.ListN.{take}
 use lib.Seq.{take_all}
 use Rattle.bbt.specs.Entries.{updated_bytes}
@@ -58,8 +58,8 @@ loop-again c =
     let next = equal_next a.chip a.image.now pre.0 a.b.0 loop.p pre.1 here a.wanted.now pre.2 in
     let part = sym (c.before.new-equals-old.ensures ∙ ap₂ new_equals_old c.before.before.before.part.ensures c.before.before.Chunk-of.ensures) in
     ⊎_elim
-    (λ w. (omega arith, next ∙ ap₂ ◌&&◌ loop.invariant.1 (part ∙ not_true _ w.0.taken) ∙ and_false loop.auto ∙ sym w.1))
-    (λ w. (omega arith, next ∙ ap₂ ◌&&◌ loop.invariant.1 (part ∙ not-false _ w.0.left) ∙ and_true loop.auto ∙ sym w.1))
+    (λ w. (omega arith, next ∙ ap₂ ◌&&◌ loop.invariant.1 (part ∙ not-true _ w.0.taken) ∙ and-false loop.auto ∙ sym w.1))
+    (λ w. (omega arith, next ∙ ap₂ ◌&&◌ loop.invariant.1 (part ∙ not-false _ w.0.left) ∙ and-true loop.auto ∙ sym w.1))
     c.if1.branch
 
 returns : tie.Need-returns invariant-loop decreases-loop

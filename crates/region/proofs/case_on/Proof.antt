@@ -1,7 +1,7 @@
 -- `case_on` meets its contract: its tests are those of `case_on`.
 -- Assumes nothing.
 use mathlib.Core.Path.{◌∙◌, ap, sym}
-use borrow.Author.Tests.{eq-eqb, ne_eqb, not_true, not-false}
+use borrow.Author.Tests.{eq-eqb, ne_eqb, not-true, not-false}
 use Rattle.bbt.specs.Lent.{region_lent}
 use Rattle.region.specs.declared.LentCase.TheVariants.{Case}
 use Rattle.region.specs.Cases.{case_on}
@@ -33,7 +33,7 @@ unfolding case_on region_lent
 returns-3 c =
     let image = eq-eqb _ _ (c.before.before.before.before.if1.false ∙ c.before.before.before.before.before.region-bytes.ensures) in
     let status = eq-eqb _ _ (c.before.before.if2.false ∙ c.before.before.before.region-pages.ensures) in
-    simp (image, status, sym c.before.beside-lent.ensures ∙ not_true _ c.if3.true)
+    simp (image, status, sym c.before.beside-lent.ensures ∙ not-true _ c.if3.true)
 
 statuses-right-requires : tie.Need-statuses-right-requires
 statuses-right-requires c κs = search rules
@@ -43,7 +43,7 @@ unfolding case_on region_lent
 returns-4 c =
     let image = eq-eqb _ _ (c.before.before.before.before.before.before.if1.false ∙ c.before.before.before.before.before.before.before.region-bytes.ensures) in
     let status = eq-eqb _ _ (c.before.before.before.before.if2.false ∙ c.before.before.before.before.before.region-pages.ensures) in
-    simp (image, status, sym c.before.before.before.beside-lent.ensures ∙ not-false _ c.before.before.if3.false, sym c.before.statuses-right.ensures ∙ not_true _ c.if4.true)
+    simp (image, status, sym c.before.before.before.beside-lent.ensures ∙ not-false _ c.before.before.if3.false, sym c.before.statuses-right.ensures ∙ not-true _ c.if4.true)
 
 pair-case-requires : tie.Need-pair-case-requires
 pair-case-requires c κs = search rules

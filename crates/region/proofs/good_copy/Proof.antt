@@ -5,7 +5,7 @@ use mathlib.Core.Path.{◌≡◌, refl, ◌∙◌, ap, ap₂, sym}
 use Prim.Native.Nat.{ℕ, ◌*◌, ◌≤◌, ◌-◌}
 use native.Mathlib.Omega.{arith}
 use borrow.Author.Rules.{rules}
-use borrow.Author.Tests.{not_true, not-false}
+use borrow.Author.Tests.{not-true, not-false}
 use Rattle.bbt.specs.Pages.{all}
 use Rattle.bbt.proofs.Searches.{all_next, all_not}
 use Rattle.chip.specs.Large.{pages_of}
@@ -72,7 +72,7 @@ returns c =
     let first : a.b.0 * c.before.before.before.before.before.before.pages.result ≡ a.b.0 * pages_of a.chip = ap (λ (n : ℕ). a.b.0 * n) c.before.before.before.before.before.before.pages.ensures in
     let is = good_by a.chip a.image.now a.status.now a.b.0 a.kind pre.0.some_pages pre.2 (a.b.0 * c.before.before.before.before.before.before.pages.result) first in
     let p = c.before.before.before.loop.p in
-    sym (is ∙ all_not (pages_of a.chip) _ p (omega (arith, c.before.before.before.before.before.before.pages.ensures)) (sym c.before.page-is.ensures ∙ not_true _ c.if1.true))
+    sym (is ∙ all_not (pages_of a.chip) _ p (omega (arith, c.before.before.before.before.before.before.pages.ensures)) (sym c.before.page-is.ensures ∙ not-true _ c.if1.true))
 
 add-p : tie.Need-overflow-add-p invariant-loop decreases-loop
 add-p c = omega arith

@@ -1,7 +1,7 @@
 -- `reads_bad` meets its contract: OOB byte 0 of the block's first page is 0 in every page that `bad_page` passes, a page that reads well and has
 -- neither signature then passes, and of any other the 64 OOB bytes decide.
 -- Assumes nothing.
-use mathlib.Core.Bool.{true, false, and_false}
+use mathlib.Core.Bool.{true, false, and-false}
 use mathlib.Core.List.{List}
 use mathlib.Core.Logic.{⊎_elim}
 use mathlib.Core.Path.{◌≡◌, ◌∙◌, ap, ap₂, sym}
@@ -30,7 +30,7 @@ told_neither k e f = sym (signature_same k Neither) ∙ ap₂ eqb (sym e) (sym f
 module _ (s : ℕ) (l : List ℕ) where
   byte_clears : eqb (get_or l 2048 0) 0 ≡ false → bad_page 0 s l ≡ false
   unfolding bad_page bad_mark zero_oob
-  byte_clears e = simp (e, and_false, all_not 64 (λ j. eqb (get_or l (2048 + j) 0) 0) 0 (omega arith) e)
+  byte_clears e = simp (e, and-false, all_not 64 (λ j. eqb (get_or l (2048 + j) 0) 0) 0 (omega arith) e)
 
   neither_marks : eqb s 0 ≡ true → same_kind (kind_of l) Neither ≡ true → eqb (get_or l 2048 0) 0 ≡ true → bad_page 0 s l ≡ true
   unfolding bad_page bad_mark
@@ -38,7 +38,7 @@ module _ (s : ℕ) (l : List ℕ) where
 
   signed_unmarked : same_kind (kind_of l) Neither ≡ false → bad_mark s l ≡ false
   unfolding bad_mark
-  signed_unmarked e = simp (e, and_false)
+  signed_unmarked e = simp (e, and-false)
 
   unread_unmarked : eqb s 0 ≡ false → bad_mark s l ≡ false
   unfolding bad_mark

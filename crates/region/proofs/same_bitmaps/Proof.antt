@@ -1,12 +1,12 @@
 -- `same_bitmaps` meets its contract: the parts before page p are equal or not, as `equal` says.
 -- Assumes nothing.
-use mathlib.Core.Bool.{and_true, and_false, ◌&&◌}
+use mathlib.Core.Bool.{and-true, and-false, ◌&&◌}
 use mathlib.Core.Logic.{⊎_elim}
 use mathlib.Core.Path.{◌≡◌, refl, ◌∙◌, ap, ap₂, sym}
 use Prim.Native.Nat.{ℕ, ◌≤◌, ◌-◌, ◌<◌}
 use native.Mathlib.Omega.{arith}
 use borrow.Author.Rules.{rules}
-use borrow.Author.Tests.{not_true, not-false}
+use borrow.Author.Tests.{not-true, not-false}
 use lib.ListN.{length}
 use Rattle.bbt.specs.Pairs.{same}
 use Rattle.region.specs.Stored.{stored_parts}
@@ -57,8 +57,8 @@ loop-again c =
     let parts = ap₂ same (sym c.before.before.before.part.ensures) (sym c.before.before.part2.ensures) ∙ sym c.before.same_bytes.ensures in
     let next = same_next a.chip a.image.now pre.0 a.x.0 a.y.0 p pre.2 pre.3 here lengths in
     ⊎_elim
-    (λ w. (omega arith, longer, next ∙ ap₂ ◌&&◌ c.before.before.before.before.before.loop.invariant.2 (parts ∙ not_true _ w.0.taken) ∙ and_false c.before.before.before.before.before.loop.equal ∙ sym w.1))
-    (λ w. (omega arith, longer, next ∙ ap₂ ◌&&◌ c.before.before.before.before.before.loop.invariant.2 (parts ∙ not-false _ w.0.left) ∙ and_true c.before.before.before.before.before.loop.equal ∙ sym w.1))
+    (λ w. (omega arith, longer, next ∙ ap₂ ◌&&◌ c.before.before.before.before.before.loop.invariant.2 (parts ∙ not-true _ w.0.taken) ∙ and-false c.before.before.before.before.before.loop.equal ∙ sym w.1))
+    (λ w. (omega arith, longer, next ∙ ap₂ ◌&&◌ c.before.before.before.before.before.loop.invariant.2 (parts ∙ not-false _ w.0.left) ∙ and-true c.before.before.before.before.before.loop.equal ∙ sym w.1))
     c.if1.branch
 
 returns : tie.Need-returns invariant-loop decreases-loop

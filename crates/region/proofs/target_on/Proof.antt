@@ -1,7 +1,7 @@
 -- `target_on` meets its contract: its tests are those of `target_on`.
 -- Assumes nothing.
 use mathlib.Core.Path.{◌∙◌, sym}
-use borrow.Author.Tests.{eq-eqb, ne_eqb, not_true, not-false}
+use borrow.Author.Tests.{eq-eqb, ne_eqb, not-true, not-false}
 use Rattle.bbt.specs.Lent.{region_lent}
 use Rattle.region.specs.Targets.{target_on}
 use borrow.Author.Rules.{rules}
@@ -32,7 +32,7 @@ unfolding target_on region_lent
 returns-3 c =
     let image = eq-eqb _ _ (c.before.before.before.before.if1.false ∙ c.before.before.before.before.before.region-bytes.ensures) in
     let status = eq-eqb _ _ (c.before.before.if2.false ∙ c.before.before.before.region-pages.ensures) in
-    simp (image, status, sym c.before.statuses-right.ensures ∙ not_true _ c.if3.true)
+    simp (image, status, sym c.before.statuses-right.ensures ∙ not-true _ c.if3.true)
 
 highest-free-requires : tie.Need-highest-free-requires
 highest-free-requires c κs = search rules
