@@ -237,8 +237,8 @@ typedef char ream_needs_a_host_with_64_bits[sizeof(size_t) == 8 ? 1 : -1];
  * The library's own version, as text and as a number to compare: 10,000 * major + 100 * minor + patch.
  * (ream_version() gives that of a table or a plan.)
  */
-#define REAM_LIBRARY_VERSION "6.0"
-#define REAM_LIBRARY_VERSION_NUMBER 60000
+#define REAM_LIBRARY_VERSION "5.0"
+#define REAM_LIBRARY_VERSION_NUMBER 50000
 
 /* The refusals. Three stand in the place of 5, which is not given: see ream_not_ours(). */
 enum ream_refusal_number {
@@ -266,18 +266,10 @@ enum ream_bad_block {
 	REAM_LATE = 2,		/* two to six are */
 };
 
-/* The halves of a page: the detail of REAM_UNREPAIRABLE, where the first is named if neither is repairable, and what
- * ream_place_get() is asked for. */
+/* The detail of REAM_UNREPAIRABLE. Where neither half is repairable, the first is named. */
 enum ream_half {
 	REAM_FIRST_HALF = 1,	/* data bytes 0-255 */
 	REAM_SECOND_HALF = 2,	/* data bytes 256-511 */
-};
-
-/* What was put right in a half. */
-enum ream_place_kind {
-	REAM_PLACE_NONE = 0,	/* nothing */
-	REAM_PLACE_DATA = 1,	/* a data bit */
-	REAM_PLACE_CODE = 2,	/* a bit of its code, and no data bit */
 };
 
 /*
@@ -301,9 +293,7 @@ enum ream_small_size {
 	REAM_SMALL_SPARE_SIZE = 16,	/* a page's spare bytes */
 	REAM_HALF_SIZE = 256,		/* half of a page's data */
 	REAM_HALF_CODE_SIZE = 3,	/* the code of a half */
-	REAM_FIELDS_SIZE = 11,		/* what reading a spare gives, and the first bytes of what reading a page gives */
-	REAM_PLACE_SIZE = 3,		/* the place in a half, which reading a page gives */
-	REAM_PAGE_FIELDS_SIZE = 17,	/* what reading a page gives: the 11, and the places in both halves */
+	REAM_FIELDS_SIZE = 11,		/* what reading gives */
 	REAM_BOOT_SPARES_SIZE = 32,	/* a block's spares, of its first page and of its last */
 	REAM_BOOT_BLOCK_SIZE = 2,	/* a block's room in a list of boot blocks */
 };
@@ -424,45 +414,20 @@ REAM_MUST_CHECK
 uint64_t ream_spare_read(const uint8_t *spare, size_t spare_len, uint8_t *fields, size_t fields_len);
 
 /*
- * Reads a page: its spare as ream_spare_read() does, and its data, which is repaired in place. It tells which bit of
- * each half was put right.
+ * Reads a page: its spare as ream_spare_read() does, and its data, which is repaired in place.
  *
  *	data	512 bytes, in and out
  *	spare	16 bytes
- *	fields	17 bytes, out; 11, which were right before 6.0, are refused:
- *		0-9	status, tag, path and count, as of ream_spare_read()
- *		10	how many were repaired of tag, path word, count word, first half and second half: 0 to 5,
- *			the number of places plus the repaired tag and words
- *		11-13	the place in the first half
- *		14-16	the place in the second half
- *
- * A place is the bit of a half that was put right:
- *
- *	00 00 00		none, as nothing was put right
- *	01, byte, bit		a data bit: byte 0 to 255 of the half, bit 0 to 7
- *	02, code bit, 00	a bit of the half's code, 0 to 21, and no data bit
- *
- * ream_fields_get() takes the first 11 bytes apart, ream_place_get() a place. A data byte of the first half has the
- * same number in the page; to that of the second half add 256. Code bits are counted LP0 to LP15, then CP0 to CP5, and
- * not by where the spare has them:
- *
- *	code bit	is		and stands in
- *	0-7		LP0-LP7		bits 0-7 of the code's first byte: spare byte 13, of the second half 8
- *	8-15		LP8-LP15	bits 0-7 of the second byte: spare byte 14, of the second half 9
- *	16-21		CP0-CP5		bits 2-7 of the third byte: spare byte 15, of the second half 10
+ *	fields	11 bytes, out: as of ream_spare_read(), but byte 10 counts five things, 0 to 5: tag,
+ *		path word, count word, first half, second half
  *
  * In a page otherwise as written, one flipped bit in a half, among its 256 data bytes or the 22 bits of
- * its code, gives the data as written, and the place is that bit; two are refused. A half of which a code bit alone
- * was wrong counts as repaired, and its data stays as it is. The two low bits of a code's third byte are ignored.
- *
- * In every page a place is the one bit whose flip makes the half agree with its stored code. More than that cannot be
- * seen: where three or more bits of a half are flipped and it is not refused, its data comes out wrong, and the place
- * need not be one of them.
+ * its code, gives the data as written; two are refused. A half of which a code bit alone was wrong
+ * counts as repaired, and its data stays as it is. The two low bits of a code's third byte are ignored.
  *
  * Refuses, in this order: REAM_LENGTH; REAM_BAD_BLOCK with its kind; REAM_TAG; REAM_ERASED, REAM_NOT_OURS or
  * REAM_NOT_OURS_REPAIRED, by the spare alone, whatever the data is; REAM_UNREPAIRABLE with the half. data is changed
- * only by a call that is answered, so no half is repaired when the other is refused, and no place is told beside a
- * refusal. spare is never changed.
+ * only by a call that is answered, so no half is repaired when the other is refused. spare is never changed.
  */
 REAM_MUST_CHECK
 uint64_t ream_page_read(uint8_t *data, size_t data_len, const uint8_t *spare, size_t spare_len,
@@ -787,7 +752,7 @@ static inline const char *ream_refusal_text(unsigned refusal)
 	}
 }
 
-/* What reading a spare gives, and reading a page but for its places, as numbers. */
+/* What reading a spare or a page gives, as numbers. */
 struct ream_fields {
 	uint8_t status;		/* as stored */
 	uint8_t tag;		/* one of enum ream_tag */
@@ -802,7 +767,7 @@ static inline uint32_t ream_big_endian(const uint8_t *bytes)
 	return (uint32_t)bytes[0] << 24 | (uint32_t)bytes[1] << 16 | (uint32_t)bytes[2] << 8 | bytes[3];
 }
 
-/* The numbers in the 11 bytes that reading a spare filled, or in the first 11 that reading a page did. */
+/* The numbers in the 11 bytes that reading filled. */
 static inline struct ream_fields ream_fields_get(const uint8_t bytes[REAM_FIELDS_SIZE])
 {
 	struct ream_fields fields;
@@ -813,27 +778,6 @@ static inline struct ream_fields ream_fields_get(const uint8_t bytes[REAM_FIELDS
 	fields.count = ream_big_endian(bytes + 6);
 	fields.repairs = bytes[10];
 	return fields;
-}
-
-/* The bit of a half that reading a page has put right, as numbers. */
-struct ream_place {
-	uint8_t kind;		/* one of enum ream_place_kind */
-	uint8_t byte;		/* of a data bit: its byte in the half, 0 to 255; else 0 */
-	uint8_t bit;		/* of a data bit: its number in the byte, 0 to 7; else 0 */
-	uint8_t code_bit;	/* of a code bit: 0 to 15 for LP0 to LP15, 16 to 21 for CP0 to CP5; else 0 */
-};
-
-/* The place in a half, one of enum ream_half, in the 17 bytes that reading a page filled. */
-static inline struct ream_place ream_place_get(const uint8_t fields[REAM_PAGE_FIELDS_SIZE], unsigned half)
-{
-	const uint8_t *bytes = fields + REAM_FIELDS_SIZE + (half == REAM_SECOND_HALF ? REAM_PLACE_SIZE : 0);
-	struct ream_place place;
-
-	place.kind = bytes[0];
-	place.byte = bytes[0] == REAM_PLACE_DATA ? bytes[1] : 0;
-	place.bit = bytes[0] == REAM_PLACE_DATA ? bytes[2] : 0;
-	place.code_bit = bytes[0] == REAM_PLACE_CODE ? bytes[1] : 0;
-	return place;
 }
 
 /* The boot number in the path of a boot block's first or last page. */

@@ -57,14 +57,12 @@ struct implementation {
 struct bench {
 	uint8_t clean[PAGES][512];	/* as written */
 	uint8_t flipped[PAGES][512];	/* with one data bit flipped */
-	uint8_t flipped_twice[PAGES][512];	/* with one data bit flipped in each half */
 	uint8_t spare[PAGES][16];	/* as written */
-	uint8_t miscoded[PAGES][16];	/* with one bit of each half's code flipped */
 	uint8_t worn[PAGES][16];	/* with one bit of the path word flipped */
 	uint8_t not_ours[3][PAGES][16];	/* refused with 51, 52 and 53 */
 	uint8_t data[PAGES][512];	/* lent */
 	uint8_t made[16];
-	uint8_t fields[17];
+	uint8_t fields[11];
 	struct yard_table table;
 	uint8_t code[3];
 
@@ -117,8 +115,8 @@ double now(void);
 /* Of ROUNDS times. */
 double median(double *times);
 
-/* Draws the pages, writes their spares, flips one bit of each page, of each half, of each half's code and of each path
- * word, and makes spares that are not ours. */
+/* Draws the pages, writes their spares, flips one bit of each page and of each path word, and makes spares that are
+ * not ours. */
 void prepare_pages(struct bench *bench);
 
 /* The tables: the small chip's entries, the code of a half by all who can make it, the map of boot blocks, the large

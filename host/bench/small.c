@@ -20,11 +20,6 @@ static void lend_flipped(struct bench *bench)
 	memcpy(bench->data, bench->flipped, sizeof(bench->data));
 }
 
-static void lend_flipped_twice(struct bench *bench)
-{
-	memcpy(bench->data, bench->flipped_twice, sizeof(bench->data));
-}
-
 /* ---- a round of each entry */
 
 static unsigned round_half_code(struct bench *bench, const struct implementation *by)
@@ -91,23 +86,14 @@ static unsigned round_spare_not_ours_repaired(struct bench *bench, const struct 
 	return refuse_spares(bench, by, REAM_NOT_OURS_REPAIRED);
 }
 
-static unsigned read_pages(struct bench *bench, const struct implementation *by, uint8_t (*spare)[16])
+static unsigned round_page_read(struct bench *bench, const struct implementation *by)
 {
 	unsigned refusals = 0;
 
 	for (unsigned i = 0; i < PAGES; i++)
-		refusals |= ream_refusal(by->page_read(bench->data[i], 512, spare[i], 16, bench->fields, 17));
+		refusals |= ream_refusal(by->page_read(bench->data[i], 512, bench->spare[i], 16,
+						       bench->fields, 11));
 	return refusals;
-}
-
-static unsigned round_page_read(struct bench *bench, const struct implementation *by)
-{
-	return read_pages(bench, by, bench->spare);
-}
-
-static unsigned round_page_read_miscoded(struct bench *bench, const struct implementation *by)
-{
-	return read_pages(bench, by, bench->miscoded);
 }
 
 /* ---- the trials */
@@ -122,8 +108,6 @@ static const struct trial small_trials[] = {
 	{ "ream_spare_read", "spares, another magic, one bit flipped: 53", 0, lend_clean, round_spare_not_ours_repaired },
 	{ "ream_page_read", "pages as written", 0, lend_clean, round_page_read },
 	{ "ream_page_read", "pages, one data bit flipped", 0, lend_flipped, round_page_read },
-	{ "ream_page_read", "pages, one data bit flipped in each half", 0, lend_flipped_twice, round_page_read },
-	{ "ream_page_read", "pages, one code bit flipped in each half", 0, lend_clean, round_page_read_miscoded },
 };
 
 enum { TRIALS = sizeof(small_trials) / sizeof(small_trials[0]) };
@@ -143,24 +127,6 @@ static void prepare_not_ours(struct bench *bench, uint64_t *state)
 		memcpy(clean + 11, word + 2, 2);
 		memcpy(repaired, clean, 16);
 		repaired[7] ^= (uint8_t)(1 << draw_below(state, 8));
-	}
-}
-
-/* The pages as written, with one data bit of each half flipped, and their spares with one bit of each code. A code's
- * bits that count are those of its three bytes but the two low ones of the third. */
-static void prepare_repairs(struct bench *bench, uint64_t *state)
-{
-	memcpy(bench->flipped_twice, bench->clean, sizeof(bench->flipped_twice));
-	memcpy(bench->miscoded, bench->spare, sizeof(bench->miscoded));
-	for (unsigned i = 0; i < PAGES; i++) {
-		for (unsigned half = 0; half < 2; half++) {
-			const unsigned place = (unsigned)draw_below(state, 8 * 256);
-			const unsigned code_bit = (unsigned)draw_below(state, 22);
-			const unsigned code_place = code_bit < 16 ? code_bit : code_bit + 2;
-
-			bench->flipped_twice[i][256 * half + place / 8] ^= (uint8_t)(1 << place % 8);
-			bench->miscoded[i][(half == 0 ? 13 : 8) + code_place / 8] ^= (uint8_t)(1 << code_place % 8);
-		}
 	}
 }
 
@@ -185,7 +151,6 @@ void prepare_pages(struct bench *bench)
 		bench->worn[i][draw_below(&state, 3)] ^= (uint8_t)(1 << bit);
 	}
 	prepare_not_ours(bench, &state);
-	prepare_repairs(bench, &state);
 	yard_table_make(&bench->table);
 }
 

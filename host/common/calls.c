@@ -71,7 +71,7 @@ const struct entry entries[ENTRIES] = {
 	},
 	[PAGE_READ] = {
 		"ream_page_read", 0, { NULL },
-		3, { { "data", 512, BYTE, IN_OUT }, { "spare", 16, BYTE, IN }, { "fields", 17, BYTE, OUT } },
+		3, { { "data", 512, BYTE, IN_OUT }, { "spare", 16, BYTE, IN }, { "fields", 11, BYTE, OUT } },
 		library_page_read, reference_page_read,
 	},
 	[FIRST_BITMAP] = {
@@ -218,16 +218,6 @@ static void show_spares(const struct call *call)
 	}
 }
 
-/* The fields that a read left, by the library and by the reference. */
-static void show_fields(const struct test *test)
-{
-	const unsigned i = buffer_place(test->call.index, "fields");
-	const struct lent *library = &test->library[i], *reference = &test->reference[i];
-
-	show_buffer("left", library->room + library->start, library->len);
-	show_buffer("reference", reference->room + reference->start, reference->len);
-}
-
 static void show_call(const struct test *test)
 {
 	const struct call *call = &test->call;
@@ -242,8 +232,6 @@ static void show_call(const struct test *test)
 		show_region(call);
 	if (has_buffer(call->index, "spares"))
 		show_spares(call);
-	if (has_buffer(call->index, "fields"))
-		show_fields(test);
 	printf("    answer    %" PRIX64 " hex, reference %" PRIX64 " hex\n", test->answer,
 	       test->reference_answer);
 }

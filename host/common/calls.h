@@ -23,7 +23,7 @@ enum {
 	MOST_NUMBERS = 5,
 	MOST_BUFFERS = 5,
 	MOST_DIFFERENCES = 5,	/* a test ends after this many */
-	SHOWN_BYTES = 17,	/* a message shows so many bytes of a buffer: all of a page's fields */
+	SHOWN_BYTES = 16,	/* a message shows so many bytes of a buffer */
 	SHOWN_BLOCKS = 20,	/* and so many small-chip blocks */
 };
 

@@ -1,10 +1,9 @@
 /*
- * An example for drivers, in two parts. The small chip: writes the spare of a page, flips a bit of each half as a worn
- * chip would, reads the page back through the library, shows which bits were put right, and shows a refusal; then finds
- * the boot blocks, as a loader does. The large chip: makes its first pair of bad-block tables from the factory's marks;
- * marks a block as gone bad and reads the table back; then an erase fails in such an update, so that a block of the
- * region is retired and the update goes on in another; then power fails in an update, and a recovery settles the pair
- * again.
+ * An example for drivers, in two parts. The small chip: writes the spare of a page, flips one bit as a worn
+ * chip would, reads the page back through the library, and shows a refusal; then finds the boot blocks, as a loader
+ * does. The large chip: makes its first pair of bad-block tables from the factory's marks; marks a block as gone bad
+ * and reads the table back; then an erase fails in such an update, so that a block of the region is retired and the
+ * update goes on in another; then power fails in an update, and a recovery settles the pair again.
  */
 #include <inttypes.h>
 #include <limits.h>
@@ -30,27 +29,12 @@ static void print_fields(const uint8_t bytes[REAM_FIELDS_SIZE])
 	       fields.tag, fields.path, fields.count, fields.repairs);
 }
 
-/* Says which bit of a half was put right: a driver that keeps these sees which bits of a block wear out. */
-static void print_place(const uint8_t bytes[REAM_PAGE_FIELDS_SIZE], unsigned half)
-{
-	const struct ream_place place = ream_place_get(bytes, half);
-	const char *name = half == REAM_FIRST_HALF ? "first" : "second";
-	const unsigned start = half == REAM_FIRST_HALF ? 0 : REAM_HALF_SIZE;
-
-	if (place.kind == REAM_PLACE_DATA)
-		printf("  %s half: bit %u of byte %u of the page was put right\n", name, place.bit, start + place.byte);
-	else if (place.kind == REAM_PLACE_CODE)
-		printf("  %s half: code bit %u was wrong, the data was right\n", name, place.code_bit);
-	else
-		printf("  %s half: nothing was put right\n", name);
-}
-
 static int small_chip(void)
 {
 	uint8_t written[REAM_SMALL_DATA_SIZE];
 	uint8_t data[REAM_SMALL_DATA_SIZE];
 	uint8_t spare[REAM_SMALL_SPARE_SIZE];
-	uint8_t fields[REAM_PAGE_FIELDS_SIZE];
+	uint8_t fields[REAM_FIELDS_SIZE];
 	uint64_t answer;
 
 	for (unsigned i = 0; i < sizeof(written); i++)
@@ -68,18 +52,15 @@ static int small_chip(void)
 		printf(" %02X", spare[i]);
 	printf("\n");
 
-	/* One bit of each half flips on the chip, of the first in its code; the read puts the data right in place. */
-	spare[13] ^= 0x80;
+	/* One bit flips on the chip; the read puts it right in place. */
 	data[300] ^= 0x10;
 	answer = ream_page_read(data, sizeof(data), spare, sizeof(spare), fields, sizeof(fields));
 	if (!ream_ok(answer)) {
 		print_refusal("ream_page_read", answer);
 		return EXIT_FAILURE;
 	}
-	printf("page read with bit 7 of spare byte 13 and bit 4 of byte 300 flipped:\n");
+	printf("page read with bit 4 of byte 300 flipped:\n");
 	print_fields(fields);
-	print_place(fields, REAM_FIRST_HALF);
-	print_place(fields, REAM_SECOND_HALF);
 	printf("  the data is %s\n", memcmp(data, written, sizeof(data)) == 0 ? "as written" : "NOT as written");
 
 	/* Two bits of one half flip: the read is refused and changes nothing. */

@@ -15,9 +15,8 @@
 static const char help[] =
 	"usage: ream page [--repaired OUT] [--force] [--json] FILE\n"
 	"\n"
-	"Reads a page of the small chip: status, tag, path, erase count, what was\n"
-	"repaired, and which bit of each half was wrong. A page that cannot be read is\n"
-	"refused, with exit status 1.\n"
+	"Reads a page of the small chip: status, tag, path, erase count, and what was\n"
+	"repaired. A page that cannot be read is refused, with exit status 1.\n"
 	"\n"
 	"  --repaired OUT   writes the page as it was meant: its data repaired, and the\n"
 	"                   spare that belongs to it\n"
@@ -36,38 +35,27 @@ struct reading {
 	uint64_t answer;
 	bool meant_known;	/* not of a count that can be read but not written */
 	struct ream_fields fields;
-	struct ream_place places[2];	/* in the first half and in the second */
 	struct outputs outputs;
 };
 
 /* ---- what was repaired */
 
-/* A half: its name, where it starts in the page, and where its code starts in the spare. */
-struct half {
-	const char *name;
-	const char *key;	/* the name in JSON */
-	unsigned data;
-	unsigned code;
-};
-
-static const struct half halves[2] = {
-	{ "first half", "first_half", 0, 13 },
-	{ "second half", "second_half", REAM_HALF_SIZE, 8 },
-};
-
-/* A tag or a word: the spare bytes, with the bits that count, in which one that was repaired differs from the one
- * found. */
+/* Spare bytes, with the bits that count, in which a repaired word or code differs from the one found. */
 struct part {
 	const char *name;
 	unsigned bytes;
 	uint8_t place[4];
 	uint8_t last;		/* the bits that count of the last byte */
+	bool half;		/* with it goes half of the data, from this byte on */
+	unsigned data;
 };
 
 static const struct part parts[] = {
-	{ "tag", 1, { 4 }, 0xFF },
-	{ "path word", 4, { 0, 1, 2, 3 }, 0xDF },
-	{ "count word", 4, { 6, 7, 11, 12 }, 0xDF },
+	{ "tag", 1, { 4 }, 0xFF, false, 0 },
+	{ "path word", 4, { 0, 1, 2, 3 }, 0xDF, false, 0 },
+	{ "count word", 4, { 6, 7, 11, 12 }, 0xDF, false, 0 },
+	{ "first half", 3, { 13, 14, 15 }, 0xFC, true, 0 },
+	{ "second half", 3, { 8, 9, 10 }, 0xFC, true, REAM_HALF_SIZE },
 };
 
 static bool was_repaired(const struct reading *reading, const struct part *part)
@@ -79,114 +67,31 @@ static bool was_repaired(const struct reading *reading, const struct part *part)
 		if (((reading->found[at] ^ reading->meant[at]) & counting) != 0)
 			return true;
 	}
-	return false;
+	return part->half &&
+	       memcmp(reading->found + part->data, reading->meant + part->data, REAM_HALF_SIZE) != 0;
 }
-
-enum { MOST_REPAIRED = sizeof(parts) / sizeof(parts[0]) + 2 };
-
-/* The names of what was repaired; none where it is not known of the words. Gives how many there are. */
-static unsigned repaired(const struct reading *reading, const char *names[MOST_REPAIRED])
-{
-	unsigned count = 0;
-
-	if (!reading->meant_known)
-		return 0;
-	for (unsigned i = 0; i < sizeof(parts) / sizeof(parts[0]); i++)
-		if (was_repaired(reading, &parts[i]))
-			names[count++] = parts[i].name;
-	for (unsigned i = 0; i < 2; i++)
-		if (reading->places[i].kind != REAM_PLACE_NONE)
-			names[count++] = halves[i].name;
-	return count;
-}
-
-/* ---- the bits of the halves that were wrong */
-
-/* A code bit's name, by its letters and number, and where it stands: in a byte of the code. */
-struct code_bit {
-	const char *letters;
-	unsigned number;
-	unsigned byte;
-	unsigned bit;
-};
-
-static struct code_bit code_bit_of(unsigned code_bit)
-{
-	if (code_bit < 16)
-		return (struct code_bit){ "LP", code_bit, code_bit / 8, code_bit % 8 };
-	return (struct code_bit){ "CP", code_bit - 16, 2, code_bit - 16 + 2 };
-}
-
-static void print_place(const struct half *half, const struct ream_place *place)
-{
-	const struct code_bit code_bit = code_bit_of(place->code_bit);
-
-	if (place->kind == REAM_PLACE_NONE)
-		return;
-	printf("  %s: ", half->name);
-	if (place->kind == REAM_PLACE_CODE)
-		printf("code bit %s%u was wrong, bit %u of spare byte %u\n", code_bit.letters, code_bit.number,
-		       code_bit.bit, half->code + code_bit.byte);
-	else if (half->data != 0)
-		printf("bit %u of byte %u was wrong, byte %u of the page\n", place->bit, place->byte,
-		       half->data + place->byte);
-	else
-		printf("bit %u of byte %u was wrong\n", place->bit, place->byte);
-}
-
-static void write_place(struct json *json, const struct half *half, const struct ream_place *place)
-{
-	static const char *const kinds[] = {
-		[REAM_PLACE_NONE] = "none", [REAM_PLACE_DATA] = "data", [REAM_PLACE_CODE] = "code",
-	};
-	const struct code_bit code_bit = code_bit_of(place->code_bit);
-	char name[8];
-
-	json_object(json, half->key);
-	json_text(json, "kind", kinds[place->kind]);
-	if (place->kind == REAM_PLACE_DATA) {
-		json_number(json, "byte", place->byte);
-		json_number(json, "bit", place->bit);
-		json_number(json, "page_byte", half->data + place->byte);
-	}
-	if (place->kind == REAM_PLACE_CODE) {
-		snprintf(name, sizeof(name), "%s%u", code_bit.letters, code_bit.number);
-		json_number(json, "code_bit", place->code_bit);
-		json_text(json, "name", name);
-		json_number(json, "spare_byte", half->code + code_bit.byte);
-		json_number(json, "spare_bit", code_bit.bit);
-	}
-	json_end(json);
-}
-
-/* ---- repairs and places together */
 
 static void print_repairs(const struct reading *reading)
 {
-	const char *names[MOST_REPAIRED];
-	const unsigned count = repaired(reading, names);
+	const char *before = " (";
 
 	printf("repairs: %u", reading->fields.repairs);
-	for (unsigned i = 0; i < count; i++)
-		printf("%s%s", i == 0 ? " (" : ", ", names[i]);
-	printf("%s\n", count == 0 ? "" : ")");
-	for (unsigned i = 0; i < 2; i++)
-		print_place(&halves[i], &reading->places[i]);
+	for (unsigned i = 0; i < sizeof(parts) / sizeof(parts[0]) && reading->meant_known; i++) {
+		if (!was_repaired(reading, &parts[i]))
+			continue;
+		printf("%s%s", before, parts[i].name);
+		before = ", ";
+	}
+	printf("%s\n", before[0] == ',' ? ")" : "");
 }
 
 static void write_repairs(struct json *json, const struct reading *reading)
 {
-	const char *names[MOST_REPAIRED];
-	const unsigned count = repaired(reading, names);
-
 	json_number(json, "repairs", reading->fields.repairs);
 	json_list(json, "repaired");
-	for (unsigned i = 0; i < count; i++)
-		json_text(json, NULL, names[i]);
-	json_end(json);
-	json_object(json, "places");
-	for (unsigned i = 0; i < 2; i++)
-		write_place(json, &halves[i], &reading->places[i]);
+	for (unsigned i = 0; i < sizeof(parts) / sizeof(parts[0]) && reading->meant_known; i++)
+		if (was_repaired(reading, &parts[i]))
+			json_text(json, NULL, parts[i].name);
 	json_end(json);
 }
 
@@ -297,7 +202,7 @@ static enum exit_status tell_refusal(const struct reading *reading, bool as_json
 static void read_page(struct reading *reading)
 {
 	uint8_t *data = reading->meant, *spare = reading->meant + DATA;
-	uint8_t fields[REAM_PAGE_FIELDS_SIZE];
+	uint8_t fields[REAM_FIELDS_SIZE];
 	uint64_t written;
 
 	memcpy(reading->meant, reading->found, PAGE);
@@ -305,8 +210,6 @@ static void read_page(struct reading *reading)
 	if (ream_refusal(reading->answer) != REAM_OK)
 		return;
 	reading->fields = ream_fields_get(fields);
-	reading->places[0] = ream_place_get(fields, REAM_FIRST_HALF);
-	reading->places[1] = ream_place_get(fields, REAM_SECOND_HALF);
 	written = ream_spare_write(data, DATA, reading->fields.tag, reading->fields.path, reading->fields.count,
 				   spare, SPARE);
 	reading->meant_known = ream_refusal(written) == REAM_OK;

@@ -1903,49 +1903,18 @@ says "status: FF, good"
 says "tag: 01, boot"
 check "one erase is one" grep -qx "count: 1 erase" out
 says "repairs: 0"
-says_not "was wrong"
-# The lines behind the repairs: of each half that was put right the bit that was wrong.
-tells() { # LINE..: these and no others
-	grep "was wrong" out >found
-	printf '  %s\n' "$@" >expected
-	[ $# -gt 0 ] || : >expected
-	check "the bits that were wrong: $*" cmp expected found
-	check "they stand behind the repairs: $*" [ "$(sed -n '/^repairs: /,$p' out | grep -c "was wrong")" -eq $# ]
-}
-mend() { # NAME OFFSET BYTE [PLACE]: a page with one byte changed, which is put right
+mend() { # NAME OFFSET BYTE: a page with one byte changed, which is put right
 	cp page flawed
 	poke flawed "$2" "$3"
 	rm -f mended
 	expect 0 "repairs: 1 ($1)" page --repaired mended flawed
 	says "page written: mended"
 	check "a repaired page is as it was written: $1" cmp page mended
-	if [ $# -eq 4 ]; then
-		tells "$1: $4"
-	else
-		tells
-	fi
 }
-mend "first half" 0 '\376' "bit 0 of byte 0 was wrong"
-mend "first half" 525 '\376' "code bit LP0 was wrong, bit 0 of spare byte 13"
-mend "second half" 511 '\177' "bit 7 of byte 255 was wrong, byte 511 of the page"
-mend "second half" 522 '\373' "code bit CP0 was wrong, bit 2 of spare byte 10"
-without() { # BIT: a byte that has all others, as an octal escape
-	printf '\\%03o' $((255 ^ (1 << $1)))
-}
-for bit in 0 1 2 3 4 5 6 7; do
-	byte=$(without $bit)
-	for at in 0 17 128 255; do
-		mend "first half" $at "$byte" "bit $bit of byte $at was wrong"
-		mend "second half" $((256 + at)) "$byte" "bit $bit of byte $at was wrong, byte $((256 + at)) of the page"
-	done
-	mend "first half" 525 "$byte" "code bit LP$bit was wrong, bit $bit of spare byte 13"
-	mend "first half" 526 "$byte" "code bit LP$((8 + bit)) was wrong, bit $bit of spare byte 14"
-	mend "second half" 520 "$byte" "code bit LP$bit was wrong, bit $bit of spare byte 8"
-	mend "second half" 521 "$byte" "code bit LP$((8 + bit)) was wrong, bit $bit of spare byte 9"
-	[ $bit -ge 2 ] || continue
-	mend "first half" 527 "$byte" "code bit CP$((bit - 2)) was wrong, bit $bit of spare byte 15"
-	mend "second half" 522 "$byte" "code bit CP$((bit - 2)) was wrong, bit $bit of spare byte 10"
-done
+mend "first half" 0 '\376'
+mend "first half" 525 '\376'
+mend "second half" 511 '\177'
+mend "second half" 522 '\373'
 mend "tag" 516 '\000'
 mend "path word" 512 '\200'
 mend "path word" 515 '\242'
@@ -1959,30 +1928,11 @@ poke flawed 522 '\374'
 poke flawed 527 '\374'
 expect 0 "repairs: 0" page flawed
 check "bits that are ignored are no repair" grep -qx "repairs: 0" out
-tells
 says "status: FE, good"
 poke flawed 0 '\376'
 poke flawed 256 '\376'
 poke flawed 516 '\003'
 expect 0 "repairs: 3 (tag, first half, second half)" page flawed
-tells "first half: bit 0 of byte 0 was wrong" "second half: bit 0 of byte 0 was wrong, byte 256 of the page"
-cp page flawed
-poke flawed 513 '\001'
-poke flawed 526 '\177'
-poke flawed 273 '\367'
-expect 0 "repairs: 3 (path word, first half, second half)" page flawed
-tells "first half: code bit LP15 was wrong, bit 7 of spare byte 14" \
-	"second half: bit 3 of byte 17 was wrong, byte 273 of the page"
-cp page flawed
-poke flawed 17 '\367'
-poke flawed 522 '\177'
-expect 0 "repairs: 2 (first half, second half)" page flawed
-tells "first half: bit 3 of byte 17 was wrong" "second half: code bit CP5 was wrong, bit 7 of spare byte 10"
-# three wrong bits of a half look like another one, which is told, as it is the one that the library puts right
-cp page flawed
-poke flawed 1 '\376\376\377\375'
-expect 0 "repairs: 1 (first half)" page --repaired mended --force flawed
-tells "first half: bit 1 of byte 7 was wrong"
 { ff 512; printf '\000\000\001\243\030\377\126\000\377\377\377\000\142\377\377\377'; } >data_page
 expect 0 "path: 6" page data_page
 says "tag: 18, data"
@@ -1991,21 +1941,12 @@ says "tag: 18, data"
 { ff 512; printf '\000\000\001\243\001\377\126\377\377\377\377\377\376\377\377\377'; } >counted
 expect 0 "count: 262143 erases" page counted
 expect_none none 1 "repaired page: refused, 2: a number is outside its range" page --repaired none counted
-tells
-# of which the places are known all the same
-cp counted flawed
-poke flawed 300 '\376'
-poke flawed 525 '\375'
-expect 0 "repairs: 2" page flawed
-tells "first half: code bit LP1 was wrong, bit 1 of spare byte 13" \
-	"second half: bit 0 of byte 44 was wrong, byte 300 of the page"
 
 refuse() { # WORDS DETAIL OFFSET BYTES: a page with bytes changed, which is refused
 	cp page flawed
 	poke flawed "$3" "$4"
 	expect_none none 1 "$1" page --repaired none flawed
 	says "$2"
-	says_not "was wrong"
 }
 refuse "page: refused, 3: the block is marked bad" "status byte 00: marked by the factory" 517 '\000'
 refuse "page: refused, 3: the block is marked bad" "status byte FC: went bad in use (late)" 517 '\374'
@@ -2015,9 +1956,6 @@ refuse "page: refused, 53: the magic is not 56 hex, in a word that was repaired"
 	"magic 65 after the repair, 64 in spare byte 6" 518 '\144'
 refuse "page: refused, 6: a half of the page is not repairable" "the first half, bytes 0-255" 0 '\374'
 refuse "page: refused, 6: a half of the page is not repairable" "the second half, bytes 256-511" 256 '\374'
-# a half that could be put right beside one that cannot
-refuse "page: refused, 6: a half of the page is not repairable" "the second half, bytes 256-511" 255 '\376\374'
-refuse "page: refused, 6: a half of the page is not repairable" "the first half, bytes 0-255" 255 '\374\376'
 # a page that is not ours: erased; another magic, written so; another magic in spite of a repair
 ff 528 >erased_page
 expect 1 "page: refused, 51: the spare is erased, all FF" page erased_page
@@ -2026,7 +1964,6 @@ cp erased_page flawed
 poke flawed 511 '\376'
 expect 1 "page: refused, 51: the spare is erased, all FF" page flawed
 says "  but 1 data byte is not FF"
-says_not "was wrong"
 poke flawed 0 '\000\000'
 expect_none none 1 "page: refused, 51" page --repaired none flawed
 says "  but 3 data bytes are not FF"
@@ -2040,7 +1977,6 @@ not_ours() { # NUMBER MAGIC STORED OFFSET BYTE: an erased page with a byte chang
 	esac
 	expect 1 "page: refused, $refuse_words" page flawed
 	check "the magic is told" grep -qx "  $detail" out
-	says_not "was wrong"
 }
 for place in 0 1 2 3 4 5 8 9 10 13 14 15; do
 	not_ours 52 FF FF $place '\376'
@@ -2515,48 +2451,23 @@ if command -v python3 >/dev/null && python3 -c 'import json' 2>/dev/null; then
 	check "nothing but JSON is on the standard output" [ ! -s out ]
 	json 0 page page
 	has "d['command'] == 'page'" "d['status'] == 255" "d['tag'] == 1" "d['tag_name'] == 'boot'" "d['path'] == 6" \
-		"d['boot_number'] == 1" "d['generation'] == 2" "d['count'] == 1" "d['repairs'] == 0" "d['repaired'] == []" \
-		"d['places'] == {'first_half': {'kind': 'none'}, 'second_half': {'kind': 'none'}}"
+		"d['boot_number'] == 1" "d['generation'] == 2" "d['count'] == 1" "d['repairs'] == 0" "d['repaired'] == []"
 	cp page flawed
 	poke flawed 0 '\376'
 	poke flawed 516 '\003'
 	rm -f mended
 	json 0 page --repaired mended flawed
-	has "d['repairs'] == 2" "d['repaired'] == ['tag', 'first half']" "d['written'][0]['path'] == 'mended'" \
-		"d['places'] == {'first_half': {'kind': 'data', 'byte': 0, 'bit': 0, 'page_byte': 0},
-			'second_half': {'kind': 'none'}}"
-	poke flawed 0 '\377'
-	poke flawed 17 '\367'
-	poke flawed 511 '\337'
-	json 0 page flawed
-	has "d['repairs'] == 3" "d['repaired'] == ['tag', 'first half', 'second half']" \
-		"d['places'] == {'first_half': {'kind': 'data', 'byte': 17, 'bit': 3, 'page_byte': 17},
-			'second_half': {'kind': 'data', 'byte': 255, 'bit': 5, 'page_byte': 511}}"
-	for code_bit in 0 7 8 15 16 21; do
-		byte=$((code_bit < 16 ? code_bit / 8 : 2)) bit=$((code_bit < 16 ? code_bit % 8 : code_bit - 14))
-		called=$([ $code_bit -lt 16 ] && echo LP$code_bit || echo CP$((code_bit - 16)))
-		cp page flawed
-		poke flawed $((525 + byte)) "$(without $bit)"
-		json 0 page flawed
-		has "d['repairs'] == 1" "d['repaired'] == ['first half']" \
-			"d['places'] == {'first_half': {'kind': 'code', 'code_bit': $code_bit, 'name': '$called',
-				'spare_byte': $((13 + byte)), 'spare_bit': $bit}, 'second_half': {'kind': 'none'}}"
-		poke flawed $((525 + byte)) '\377'
-		poke flawed $((520 + byte)) "$(without $bit)"
-		json 0 page flawed
-		has "d['places'] == {'first_half': {'kind': 'none'}, 'second_half': {'kind': 'code',
-			'code_bit': $code_bit, 'name': '$called', 'spare_byte': $((8 + byte)), 'spare_bit': $bit}}"
-	done
+	has "d['repairs'] == 2" "d['repaired'] == ['tag', 'first half']" "d['written'][0]['path'] == 'mended'"
 	json 0 page data_page
 	has "'boot_number' not in d"
 	json 1 page --repaired none counted
-	has "d['refusal']['number'] == 2" "d['count'] == 262143" "d['places']['first_half'] == {'kind': 'none'}"
+	has "d['refusal']['number'] == 2" "d['count'] == 262143"
 	json 1 page erased_page
 	has "d['refusal'] == {'number': 51, 'text': 'the spare is erased, all FF'}" "d['detail'] == 'the page is erased, all FF'"
 	cp erased_page flawed
 	poke flawed 519 '\376'
 	json 1 page flawed
-	has "d['refusal']['number'] == 53" "d['detail'] == 'magic FF after the repair, FF in spare byte 6'" "'places' not in d"
+	has "d['refusal']['number'] == 53" "d['detail'] == 'magic FF after the repair, FF in spare byte 6'"
 	poke flawed 519 '\377'
 	poke flawed 516 '\376'
 	json 1 page flawed
@@ -2873,10 +2784,6 @@ check "the manual's marks are these" cmp marks manual/marks
 sed -n '/^dump: 2 blocks/,/^\.EE/p' "$manual" | sed '/^\.EE/d' | plain >printed
 blocks_of 0:0 0:1 | "$ream" boot --spares - >found
 check "the manual prints the map of boot blocks as it is" cmp printed found
-sed -n '/^status: FF, good/,/^\.EE/p' "$manual" | sed '/^\.EE/d' | plain >printed
-"$ream" page --repaired meant.bin manual/page.bin >found
-check "the manual prints the page as it is" cmp printed found
-check "the manual's page is written as it was meant" cmp meant.bin manual/meant.bin
 sed -n '/^\.EX/,/^\.EE/p' "$manual" | plain | awk '/^# (nanddump|flash_erase|nandwrite|mtdpart) / { on = 1 }
 	on { print } !/\\$/ { on = 0 }' | sed 's|^# ||; s|/dev/mtd[0-9]|no_chip|' >chip_commands
 check "the manual has the commands for a chip" [ "$(grep -c '^[a-z]' chip_commands)" -eq 18 ]

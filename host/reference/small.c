@@ -202,19 +202,12 @@ static struct code code_read(const uint8_t *stored)
 	return code;
 }
 
-/* Request T-05 of document 02: "the code bit 0-21 counted LP0 to LP15 then CP0 to CP5". */
-static unsigned counted(const struct code *code, unsigned code_bit)
-{
-	return code_bit < 16 ? code->lp[code_bit] : code->cp[code_bit - 16];
-}
-
 enum verdict { CLEAN, CODE_BIT, DATA_BIT, LOST };
 
 struct judged_half {
 	enum verdict verdict;
 	unsigned address;	/* of the data bit to flip */
 	unsigned number;	/* of the data bit to flip */
-	unsigned code_bit;	/* that is wrong, where one alone is */
 };
 
 /* "Difference of stored and computed code, 22 bits: none set, clean; exactly one set, a code bit, data
@@ -224,7 +217,7 @@ static struct judged_half half_judge(const uint8_t *half, const uint8_t *stored)
 {
 	const struct code is = code_of(half);
 	const struct code was = code_read(stored);
-	struct judged_half judged = { LOST, 0, 0, 0 };
+	struct judged_half judged = { LOST, 0, 0 };
 	unsigned set = 0;
 	unsigned pairs_with_one = 0;
 
@@ -246,9 +239,6 @@ static struct judged_half half_judge(const uint8_t *half, const uint8_t *stored)
 			pairs_with_one++;
 		judged.number += odd << k;
 	}
-	for (unsigned i = 0; i < 22; i++)
-		if (counted(&was, i) != counted(&is, i))
-			judged.code_bit = i;
 	if (set == 0)
 		judged.verdict = CLEAN;
 	else if (set == 1)
@@ -263,24 +253,6 @@ static void half_repair(uint8_t *half, const struct judged_half *judged)
 {
 	if (judged->verdict == DATA_BIT)
 		half[judged->address] ^= (uint8_t)(1 << judged->number);
-}
-
-/* T-05: "A half that was repaired must report where: the data byte 0-255 and bit 0-7, or the code bit 0-21". "Where
- * nothing was repaired, it says so and gives no place." In three bytes these are 01, byte and bit; 02, code bit and 00;
- * 00, 00 and 00. Is there a place? */
-static bool place_write(const struct judged_half *judged, uint8_t *bytes)
-{
-	memset(bytes, 0, 3);
-	if (judged->verdict == DATA_BIT) {
-		bytes[0] = 1;
-		bytes[1] = (uint8_t)judged->address;
-		bytes[2] = (uint8_t)judged->number;
-	}
-	if (judged->verdict == CODE_BIT) {
-		bytes[0] = 2;
-		bytes[1] = (uint8_t)judged->code_bit;
-	}
-	return bytes[0] != 0;
 }
 
 /* ---- a spare's fields */
@@ -412,8 +384,7 @@ uint64_t ref_spare_read(const uint8_t *spare, size_t spare_len, uint8_t *fields,
 	return ANSWERED;
 }
 
-/* "Data is repaired in place only when the whole read succeeds; the spare is never changed." T-05: "Page reading passes
- * both halves' places on, and the repair count is the number of places plus the repaired tag and words." */
+/* "Data is repaired in place only when the whole read succeeds; the spare is never changed." */
 uint64_t ref_page_read(uint8_t *data, size_t data_len, const uint8_t *spare, size_t spare_len,
 		       uint8_t *fields, size_t fields_len)
 {
@@ -421,7 +392,7 @@ uint64_t ref_page_read(uint8_t *data, size_t data_len, const uint8_t *spare, siz
 	struct fields found;
 	uint64_t refusal;
 
-	if (data_len != 512 || spare_len != 16 || fields_len != 17)
+	if (data_len != 512 || spare_len != 16 || fields_len != 11)
 		return refused(WRONG_LENGTH, 0);
 	refusal = spare_judge(spare, &found);
 	if (refusal != ANSWERED)
@@ -433,9 +404,9 @@ uint64_t ref_page_read(uint8_t *data, size_t data_len, const uint8_t *spare, siz
 	if (second.verdict == LOST)
 		return refused(NOT_REPAIRABLE, 2);
 
-	if (place_write(&first, fields + 11))
+	if (first.verdict != CLEAN)
 		found.repairs++;
-	if (place_write(&second, fields + 14))
+	if (second.verdict != CLEAN)
 		found.repairs++;
 	half_repair(data, &first);
 	half_repair(data + 256, &second);

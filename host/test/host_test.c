@@ -23,7 +23,6 @@ static void run(struct test *test, struct scene *scene)
 	test_spare_write(test);
 	test_spare_read(test);
 	test_page_read(test);
-	test_places(test);
 	test_boot_map(test);
 	test_first_bitmap(test, scene);
 	test_pair(test, scene);

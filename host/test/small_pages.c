@@ -42,72 +42,12 @@ uint64_t spare_read(struct test *test, const uint8_t *spare)
 	return call_compare(test);
 }
 
-/* The three bytes of a place are 00 00 00; 01, any byte, bit 0 to 7; or 02, code bit 0 to 21, 00. */
-static bool well_formed(const uint8_t *bytes)
-{
-	switch (bytes[0]) {
-	case 0:
-		return bytes[1] == 0 && bytes[2] == 0;
-	case 1:
-		return bytes[2] < 8;
-	case 2:
-		return bytes[1] < HALF_CODE_BITS && bytes[2] == 0;
-	default:
-		return false;
-	}
-}
-
-/* Flips the bit of a half that a place names. */
-static void flip_told(struct page *page, unsigned half, struct ream_place told)
-{
-	if (told.kind == REAM_PLACE_DATA)
-		flip(page, half_place(half, 8u * told.byte + told.bit));
-	if (told.kind == REAM_PLACE_CODE)
-		flip(page, half_place(half, HALF_DATA_BITS + told.code_bit));
-}
-
-/* Is the stored code of a half that of its data? The two low bits of the third byte do not count. */
-static bool code_agrees(const struct page *page, unsigned half)
-{
-	const uint8_t *stored = page->spare + (half == REAM_FIRST_HALF ? 13 : 8);
-	uint8_t code[3];
-
-	return ream_ok(ream_half_code(page->data + (half == REAM_FIRST_HALF ? 0 : 256), 256, code, 3)) &&
-	       code[0] == stored[0] && code[1] == stored[1] && code[2] >> 2 == stored[2] >> 2;
-}
-
-/* The places of a page that was answered fit. */
-static void expect_fitting(struct test *test, const struct page *page)
-{
-	const uint8_t *fields = call_left(test, 2);
-	const bool formed = well_formed(fields + 11) && well_formed(fields + 14);
-	struct page mended = *page;
-	uint8_t of_spare[11] = { 0 };
-	unsigned places = 0;
-
-	expect(test, formed, "the places are well formed");
-	for (unsigned half = 1; half <= 2 && formed; half++) {
-		const struct ream_place told = ream_place_get(fields, half);
-
-		flip_told(&mended, half, told);
-		places += told.kind != REAM_PLACE_NONE;
-	}
-	expect(test, memcmp(call_left(test, 0), mended.data, 512) == 0, "the data bits told are those that were changed");
-	expect(test, code_agrees(&mended, REAM_FIRST_HALF) && code_agrees(&mended, REAM_SECOND_HALF),
-	       "with the bits told flipped both halves agree with their codes");
-	expect(test, ream_ok(ream_spare_read(page->spare, 16, of_spare, 11)) && memcmp(fields, of_spare, 10) == 0,
-	       "status, tag, path and count are those of the spare alone");
-	expect(test, fields[10] == places + of_spare[10], "the repairs are the places and those of tag and words");
-}
-
 uint64_t page_read(struct test *test, const struct page *page)
 {
 	call_begin(test, PAGE_READ);
 	call_lend(test, 0, page->data, 512);
 	call_lend(test, 1, page->spare, 16);
-	if (ream_ok(call_compare(test)))
-		expect_fitting(test, page);
-	return test->answer;
+	return call_compare(test);
 }
 
 void page_call(struct test *test, enum entry_index index, const void *inputs)
@@ -144,53 +84,6 @@ void expect_fields(struct test *test, const struct page *written, uint8_t status
 void expect_data(struct test *test, const struct page *written)
 {
 	expect(test, memcmp(call_left(test, 0), written->data, 512) == 0, "the data as written");
-}
-
-/* What is told of a half in which this bit of the page is put right: by the header's table, where its codes stand in
- * the spare. */
-static struct ream_place told_of(unsigned place)
-{
-	struct ream_place told = { REAM_PLACE_NONE, 0, 0, 0 };
-	const unsigned byte = place / 8, number = place % 8;
-
-	if (place < DATA_BITS) {
-		told.kind = REAM_PLACE_DATA;
-		told.byte = (uint8_t)(byte < 256 ? byte : byte - 256);
-		told.bit = (uint8_t)number;
-	} else if (place < PAGE_BITS) {
-		told.kind = REAM_PLACE_CODE;
-		switch (byte - 512) {
-		case 8:
-		case 13:
-			told.code_bit = (uint8_t)number;
-			break;
-		case 9:
-		case 14:
-			told.code_bit = (uint8_t)(8 + number);
-			break;
-		default:
-			told.code_bit = (uint8_t)(16 + number - 2);
-			break;
-		}
-	}
-	return told;
-}
-
-static bool same_place(struct ream_place left, struct ream_place right)
-{
-	return left.kind == right.kind && left.byte == right.byte && left.bit == right.bit &&
-	       left.code_bit == right.code_bit;
-}
-
-void expect_places(struct test *test, unsigned first, unsigned second)
-{
-	const uint8_t *fields = call_left(test, 2);
-
-	expect_answer(test, REAM_OK, "a read that must be answered");
-	expect(test, same_place(ream_place_get(fields, REAM_FIRST_HALF), told_of(first)),
-	       "the bit of the first half that was put right");
-	expect(test, same_place(ream_place_get(fields, REAM_SECOND_HALF), told_of(second)),
-	       "the bit of the second half that was put right");
 }
 
 /* ---- pages */

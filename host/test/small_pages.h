@@ -1,6 +1,6 @@
 /*
- * Pages of the small chip as they were written, their bits, what is told of bits that were put right, and the calls on
- * pages that the trials of the small chip's entries share.
+ * Pages of the small chip as they were written, their bits, and the calls on them that the trials of the small
+ * chip's entries share.
  */
 #ifndef SMALL_PAGES_H
 #define SMALL_PAGES_H
@@ -39,10 +39,6 @@ uint64_t refusal(unsigned number, unsigned detail);
 uint64_t half_code(struct test *test, const uint8_t *half);
 uint64_t spare_write(struct test *test, const uint8_t *data, uint64_t tag, uint64_t path, uint64_t count);
 uint64_t spare_read(struct test *test, const uint8_t *spare);
-
-/* Of every page that is answered it is expected too that the places fit: each is well formed; the data is as it was
- * found but for the data bits told; the codes, but for the code bits told, are those of this data; and the repairs are
- * the places and what reading the spare alone repairs. */
 uint64_t page_read(struct test *test, const struct page *page);
 
 /* Sets up a call of any entry with the data, the spare and the fields of a page; `inputs` is a page. */
@@ -52,12 +48,6 @@ void page_call(struct test *test, enum entry_index index, const void *inputs);
 void expect_fields(struct test *test, const struct page *written, uint8_t status, unsigned repairs);
 
 void expect_data(struct test *test, const struct page *written);
-
-/* The last page read was answered, and told these bits of its halves, counted as below; NO_PLACE: nothing was put
- * right. */
-enum { NO_PLACE = PAGE_BITS };
-
-void expect_places(struct test *test, unsigned first, unsigned second);
 
 /* ---- pages */
 

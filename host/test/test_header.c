@@ -1,7 +1,6 @@
 /*
- * The header itself: its version, the sizes of buffers, entries of bitmaps, steps, boot blocks, fields and places,
- * answers, the texts of refusals, and the functions for pointers that may be null, for which each such pointer is a
- * buffer of no bytes.
+ * The header itself: its version, the sizes of buffers, entries of bitmaps, steps, boot blocks, answers, the texts of
+ * refusals, and the functions for pointers that may be null, for which each such pointer is a buffer of no bytes.
  */
 #include "tests.h"
 
@@ -121,54 +120,6 @@ static void try_boot_blocks(struct test *test)
 	       ream_detail(0x0203) == REAM_LATE && ream_detail(0x0106) == REAM_FIRST_HALF, "the details of refusals");
 }
 
-/* The place in a half, of which the bytes are these; the other half's are others, which must not count. */
-static struct ream_place place_of(unsigned half, unsigned kind, unsigned second, unsigned third)
-{
-	uint8_t fields[REAM_PAGE_FIELDS_SIZE];
-	uint8_t *bytes = fields + (half == REAM_FIRST_HALF ? 11 : 14);
-
-	memset(fields, 0x5A, sizeof(fields));
-	fields[half == REAM_FIRST_HALF ? 14 : 11] = (uint8_t)(2 - kind % 3);
-	bytes[0] = (uint8_t)kind;
-	bytes[1] = (uint8_t)second;
-	bytes[2] = (uint8_t)third;
-	return ream_place_get(fields, half);
-}
-
-static bool is_place(struct ream_place place, unsigned kind, unsigned byte, unsigned bit, unsigned code_bit)
-{
-	return place.kind == kind && place.byte == byte && place.bit == bit && place.code_bit == code_bit;
-}
-
-/* The fields of a spare and of a page, and the places of a page, taken apart. */
-static void try_fields_and_places(struct test *test)
-{
-	static const uint8_t bytes[REAM_PAGE_FIELDS_SIZE] = {
-		0xFE, 0x18, 0x01, 0x02, 0x03, 0x04, 0x05, 0x06, 0x07, 0x08, 4, 1, 200, 6, 2, 21, 0,
-	};
-	const struct ream_fields fields = ream_fields_get(bytes);
-
-	test->trying = "the header's fields and places";
-	expect(test, REAM_FIELDS_SIZE == 11 && REAM_PLACE_SIZE == 3 && REAM_PAGE_FIELDS_SIZE == 17,
-	       "the sizes of fields and places");
-	expect(test, REAM_PLACE_NONE == 0 && REAM_PLACE_DATA == 1 && REAM_PLACE_CODE == 2, "the kinds of place");
-	expect(test, REAM_FIRST_HALF == 1 && REAM_SECOND_HALF == 2, "the halves");
-	expect(test, fields.status == 0xFE && fields.tag == 0x18 && fields.path == 0x01020304 &&
-	       fields.count == 0x05060708 && fields.repairs == 4, "the numbers of the first eleven bytes");
-	expect(test, is_place(ream_place_get(bytes, REAM_FIRST_HALF), REAM_PLACE_DATA, 200, 6, 0) &&
-	       is_place(ream_place_get(bytes, REAM_SECOND_HALF), REAM_PLACE_CODE, 0, 0, 21), "the places of both halves");
-	for (unsigned half = 1; half <= 2; half++) {
-		expect(test, is_place(place_of(half, 0, 0, 0), REAM_PLACE_NONE, 0, 0, 0), "no place");
-		for (unsigned byte = 0; byte < 256; byte++)
-			for (unsigned bit = 0; bit < 8; bit++)
-				expect(test, is_place(place_of(half, 1, byte, bit), REAM_PLACE_DATA, byte, bit, 0),
-				       "the place of a data bit");
-		for (unsigned code_bit = 0; code_bit < 22; code_bit++)
-			expect(test, is_place(place_of(half, 2, code_bit, 0), REAM_PLACE_CODE, 0, 0, code_bit),
-			       "the place of a code bit");
-	}
-}
-
 /* Whether a call was answered, for every refusal beside every detail, or beside the numbers of an answered call. */
 static void try_answers(struct test *test)
 {
@@ -215,7 +166,7 @@ static void try_texts(struct test *test)
 static void try_null_in_pages(struct test *test)
 {
 	const struct page page = page_drawn(test);
-	uint8_t data[512], code[3], spare[16], fields[17], before[17];
+	uint8_t data[512], code[3], spare[16], fields[11];
 	uint64_t answer;
 	bool refused;
 
@@ -223,8 +174,7 @@ static void try_null_in_pages(struct test *test)
 	memcpy(data, page.data, 512);
 	memset(code, 0x5A, 3);
 	memcpy(spare, page.spare, 16);
-	memset(fields, 0x5A, 17);
-	memset(before, 0x5A, 17);
+	memset(fields, 0x5A, 11);
 	refused = ream_half_code_checked(NULL, 0, code, 3) == REAM_LENGTH &&
 		  ream_half_code_checked(NULL, 256, code, 3) == REAM_LENGTH &&
 		  ream_half_code_checked(data, 256, NULL, 3) == REAM_LENGTH &&
@@ -232,26 +182,20 @@ static void try_null_in_pages(struct test *test)
 		  ream_spare_write_checked(data, 512, page.tag, 0, 0, NULL, 16) == REAM_LENGTH &&
 		  ream_spare_read_checked(NULL, 16, fields, 11) == REAM_LENGTH &&
 		  ream_spare_read_checked(spare, 16, NULL, 0) == REAM_LENGTH &&
-		  ream_page_read_checked(NULL, 512, spare, 16, fields, 17) == REAM_LENGTH &&
-		  ream_page_read_checked(data, 512, NULL, 16, fields, 17) == REAM_LENGTH &&
-		  ream_page_read_checked(data, 512, spare, 16, NULL, 17) == REAM_LENGTH &&
+		  ream_page_read_checked(NULL, 512, spare, 16, fields, 11) == REAM_LENGTH &&
+		  ream_page_read_checked(data, 512, NULL, 16, fields, 11) == REAM_LENGTH &&
+		  ream_page_read_checked(data, 512, spare, 16, NULL, 11) == REAM_LENGTH &&
 		  ream_page_read_checked(NULL, 0, NULL, 0, NULL, 0) == REAM_LENGTH;
 	expect(test, refused, "a null pointer is refused as a wrong length");
 	expect(test, memcmp(data, page.data, 512) == 0 && memcmp(code, "\x5A\x5A\x5A", 3) == 0 &&
-	       memcmp(spare, page.spare, 16) == 0 && memcmp(fields, before, 17) == 0,
+	       memcmp(spare, page.spare, 16) == 0 && fields[0] == 0x5A && fields[10] == 0x5A,
 	       "a call refused for a null pointer changes nothing");
 
-	answer = ream_half_code_checked(data, 256, code, 3) | ream_spare_read_checked(spare, 16, fields, 11);
+	answer = ream_half_code_checked(data, 256, code, 3) | ream_spare_read_checked(spare, 16, fields, 11) |
+		 ream_page_read_checked(data, 512, spare, 16, fields, 11) |
+		 ream_spare_write_checked(data, 512, page.tag, page.path, page.count, spare, 16);
 	expect(test, answer == REAM_OK && memcmp(code, page.spare + 13, 3) == 0 &&
-	       ream_fields_get(fields).path == page.path && memcmp(fields + 11, before + 11, 6) == 0,
-	       "with no null pointer the checked functions are the entries");
-	data[300] ^= 0x10;
-	answer = ream_page_read_checked(data, 512, spare, 16, fields, 17);
-	answer |= ream_spare_write_checked(data, 512, page.tag, page.path, page.count, spare, 16);
-	expect(test, answer == REAM_OK && memcmp(data, page.data, 512) == 0 && memcmp(spare, page.spare, 16) == 0 &&
-	       ream_fields_get(fields).path == page.path && ream_fields_get(fields).repairs == 1 &&
-	       is_place(ream_place_get(fields, REAM_FIRST_HALF), REAM_PLACE_NONE, 0, 0, 0) &&
-	       is_place(ream_place_get(fields, REAM_SECOND_HALF), REAM_PLACE_DATA, 44, 4, 0),
+	       memcmp(spare, page.spare, 16) == 0 && ream_fields_get(fields).path == page.path,
 	       "with no null pointer the checked functions are the entries");
 }
 
@@ -473,7 +417,6 @@ void test_header(struct test *test, struct scene *scene)
 	try_entries_of_bitmaps(test);
 	try_steps_of_plans(test);
 	try_boot_blocks(test);
-	try_fields_and_places(test);
 	try_answers(test);
 	try_texts(test);
 	try_null_in_pages(test);

@@ -15,7 +15,6 @@ void test_half_code(struct test *test);
 void test_spare_write(struct test *test);
 void test_spare_read(struct test *test);
 void test_page_read(struct test *test);
-void test_places(struct test *test);
 
 /* Blocks of the small chip, made to order (boots.h). */
 void test_boot_map(struct test *test);

@@ -26,7 +26,7 @@ use Rattle.bbt.proofs.Failing.{Turn, first_copy, last_copy, Doing, doing_second,
 use Rattle.bbt.proofs.Forms.{Sole, sole_clear, sole_in, sole_fit, sole_length, sole_apart}
 use Rattle.bbt.proofs.LeftPages.{Judged, judge, primary_kind, mirror_kind}
 use Rattle.bbt.proofs.Numbering.{Tracked, track_first, track_next, track_numbered}
-use Rattle.bbt.proofs.Placing.{did, broke, Placing, place-start, place_fill, place_retire}
+use Rattle.bbt.proofs.Placing.{did, broke, Placing, place_start, place_fill, place_retire}
 use Rattle.bbt.proofs.Planning.{in_force, plan_is, Asked, Update, no_news, news, updates, settled_reading, reading_settled, plan_asked, Ready, nothing_to_do, one_to_place, both_to_place, plan_ready}
 use Rattle.bbt.proofs.Searches.{no_confusion}
 use Rattle.bbt.proofs.Working.{Role, first_primary, last_primary, last_mirror, last_role, rest_of, Work, Worked, still, finished, work_first, work_done, work_failed}
@@ -56,7 +56,7 @@ length_steps P q = length_first q.failed (job_steps P q.job) ∙ ap (one_more q.
 
 -- a copy being written has a step left
 has_step : {chip : LargeChip} {r : Region chip} {k j : Kind} {b g : ℕ} {x c : Table} {rest es : List Step} → Placing r k j b g x c rest es → es ≢ []
-has_step (place-start w t cl ft hb ne) e = no_confusion (cc)
+has_step (place_start w t cl ft hb ne) e = no_confusion (cc)
 has_step (place_fill n q h w f) e = no_confusion (cc)
 has_step (place_retire w t cl hz nz nb ft hb ne) e = no_confusion (cc)
 
@@ -186,7 +186,7 @@ module _ {chip : LargeChip} (ok : Judged chip) (call : Call) where
       carry_last f.carried f.made f.tracked (record {
         role = last_mirror;
         full = len;
-        placing = place-start refl n (sole_clear ok o) (sole_fit ok o) (sole_in ok o) (sole_apart ok primary_kind o n);
+        placing = place_start refl n (sole_clear ok o) (sole_fit ok o) (sole_in ok o) (sole_apart ok primary_kind o n);
         held = held_turn ok f.held;
       })
 

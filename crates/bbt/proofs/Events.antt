@@ -33,7 +33,7 @@ use Rattle.bbt.proofs.Forms.{Sole, Missing, Sound, twins, ahead, one_left, Whole
 use Rattle.bbt.proofs.LeftPages.{Judged, Twin, primary_kind, mirror_kind}
 use Rattle.bbt.proofs.Numbering.{InHand, HandOf, Tracked, tracked, track_numbered}
 use Rattle.bbt.proofs.Outcomes.{complete_kept}
-use Rattle.bbt.proofs.Placing.{Did, did, Broke, broke, Placing, place-start, place_fill, place_retire, Remains, unchanged, lacks, whole}
+use Rattle.bbt.proofs.Placing.{Did, did, Broke, broke, Placing, place_start, place_fill, place_retire, Remains, unchanged, lacks, whole}
 use Rattle.bbt.proofs.Planning.{News, Update, no_news, news, updates, next_differs, sole_table, reading_settled, plan_first, Asked, plan_asked, Ready, nothing_to_do, one_to_place, both_to_place, plan_ready, Of, recovers, sound_settled}
 use Rattle.bbt.proofs.Searches.{nowhere_find, only_find, Unique}
 use Rattle.bbt.proofs.Working.{first_primary, last_mirror, kinds, last_role, rest_of, Work, Worked, still, finished, work_first, work_frame, work_done, work_cut, work_failed, work_twin}
@@ -117,7 +117,7 @@ module _ {chip : LargeChip} where
   -- a plan at work has a step left
   place_ends : {s : Region chip} {k j : Kind} {b g : ℕ} {x c : Table} {rest es : List Step} (l l' : Last) → Placing s k j b g x c rest es
       → AfterStep s es l l' → l' ≡ l
-  place_ends l l' (place-start w t cl ft hb ne) e = e
+  place_ends l l' (place_start w t cl ft hb ne) e = e
   place_ends l l' (place_fill n q e w f) d = d
   place_ends l l' (place_retire w t cl hz nz nb ft hb ne) e = e
 
@@ -271,7 +271,7 @@ module _ {chip : LargeChip} (ok : Judged chip) where
           work = record {
             role = last_mirror;
             full = nw.full;
-            placing = place-start refl z (sole_clear ok y) (sole_fit ok y) (sole_in ok y) (sole_apart ok primary_kind y z);
+            placing = place_start refl z (sole_clear ok y) (sole_fit ok y) (sole_in ok y) (sole_apart ok primary_kind y z);
             held = held_turn ok q;
           };
           sound = ahead z y nw.newer;

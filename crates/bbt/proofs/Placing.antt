@@ -61,7 +61,7 @@ module _ {chip : LargeChip} where
 module _ {chip : LargeChip} where
   -- the steps left of placing a copy of x, kind k, at block b, and after them the rest; kind j's copy at g holds c
   pub data Placing (r : Region chip) (k j : Kind) (b g : ℕ) (x c : Table) (rest : List Step) : List Step → Type 0 where
-    place-start : {es : List Step} → es ≡ writes (pages_of chip) 0 b k x rest → Sole r j g c → Clear r k b
+    place_start : {es : List Step} → es ≡ writes (pages_of chip) 0 b k x rest → Sole r j g c → Clear r k b
         → reads_bad (view r) b ≡ false → b < chip.region → g ≢ b → Placing r k j b g x c rest (erase b ∷ es)
     place_fill : {es : List Step} (n q : ℕ) → suc n + q ≡ pages_of chip → es ≡ writes n (suc q) b k x rest → Fill r k j b g x c q
         → Placing r k j b g x c rest (write b q k x ∷ es)
@@ -251,15 +251,15 @@ module _ {chip : LargeChip} (ok : Judged chip) where
 
     pub place_done : {e : Step} {es : List Step} → Placing r k j b g x c rest (e ∷ es) → OthersKept e r s → Did e s → Went s k j b g x c rest es
     unfolding copy_steps
-    place_done (place-start w t cl ft hb ne) sp d = start_done (pages_of chip) refl w (erased x sp d o t cl hb ne full)
+    place_done (place_start w t cl ft hb ne) sp d = start_done (pages_of chip) refl w (erased x sp d o t cl hb ne full)
     place_done (place_fill n q e w l) sp d = write_done r s k j b g x c q l (omega arith) sp n e w d
     place_done (place_retire {z = z} w t cl hz nz nb ft hb ne) sp d =
         let fit : reads_bad (view s) b ≡ false = frame_bad ok r s z (zeros_frame sp) b hb nb ∙ ft in
         let l = gone (zeros_frame sp) o t cl nz 0 ok.some_page (λ i. zeroed_foreign i (inl d)) (blank_room hb ne fit) in
-        rw w (more (place-start refl l.twin (missing_clear ok l.lacking b) fit hb ne) l)
+        rw w (more (place_start refl l.twin (missing_clear ok l.lacking b) fit hb ne) l)
 
     pub place_cut : {e : Step} {es : List Step} → Placing r k j b g x c rest (e ∷ es) → OthersKept e r s → Broke e r s → Remains r s k j b g x c
-    place_cut (place-start w t cl ft hb ne) sp d = cut_erase sp d o t cl ft hb ne
+    place_cut (place_start w t cl ft hb ne) sp d = cut_erase sp d o t cl ft hb ne
     place_cut (place_fill n q e w l) sp d = write_cut r s k j b g x c q l (omega arith) sp n e d
     place_cut (place_retire {z = z} w t cl hz nz nb ft hb ne) sp (inl d) = unchanged (all_same (zeros_frame sp) (λ p hp. at p hp (ℕ_discrete p 0)))
       where
@@ -286,11 +286,11 @@ module _ {chip : LargeChip} (ok : Judged chip) where
     -- the block that the next step touches
     pub place_frame : {e : Step} {es : List Step} → Placing r k j b g x c rest (e ∷ es) → OthersKept e r s
         → (z : ℕ) × Frame r s z × (g ≢ z) × ((z ≡ b) ⊎ (e ≡ zeros z))
-    place_frame (place-start w t cl ft hb ne) sp = (b, erase_frame sp, ne, inl refl)
+    place_frame (place_start w t cl ft hb ne) sp = (b, erase_frame sp, ne, inl refl)
     place_frame (place_fill n q e w l) sp = (b, write_frame r s k j b g x c q l (omega arith) sp, l.off-twin, inl refl)
     place_frame (place_retire {z = z} w t cl hz nz nb ft hb ne) sp = (z, zeros_frame sp, nz, inr refl)
 
   pub place_twin : {r : Region chip} {k j : Kind} {b g : ℕ} {x c : Table} {rest es : List Step} → Placing r k j b g x c rest es → Sole r j g c × (b < chip.region) × (g ≢ b)
-  place_twin (place-start w t cl ft hb ne) = (t, hb, ne)
+  place_twin (place_start w t cl ft hb ne) = (t, hb, ne)
   place_twin (place_fill n q e w l) = (l.twin, l.in-region, l.off-twin)
   place_twin (place_retire w t cl hz nz nb ft hb ne) = (t, hb, ne)

@@ -17,7 +17,7 @@ use Rattle.bbt.proofs.Failing.{Turn, if_it_fails}
 use Rattle.bbt.proofs.LeftPages.{Judged, judge}
 use Rattle.bbt.proofs.Numbering.{Tracked, InHand, HandOf, started, tracked, track_numbered}
 use Rattle.bbt.proofs.Outcomes.{zeroed_bad}
-use Rattle.bbt.proofs.Placing.{Placing, place-start, place_fill, place_retire}
+use Rattle.bbt.proofs.Placing.{Placing, place_start, place_fill, place_retire}
 use Rattle.bbt.proofs.Planning.{settled_reading, reading_settled, recovers, no_merge}
 use Rattle.bbt.proofs.Working.{Work, work_at, work_apart}
 
@@ -30,7 +30,7 @@ module _ {chip : LargeChip} (ok : Judged chip) where
 
   place_settles : {r : Region chip} {k j : Kind} {b g : ℕ} {x c : Table} {rest es : List Step} (a : Snapshot chip) (i : ℕ) (l : Last)
       → Placing r k j b g x c rest es → Settles (world r (holding for_recovery a i es) l)
-  place_settles a i l (place-start w t cl ft hb ne) = tt
+  place_settles a i l (place_start w t cl ft hb ne) = tt
   place_settles a i l (place_fill n q e w f) = tt
   place_settles a i l (place_retire w t cl hz nz nb ft hb ne) = tt
 
@@ -46,7 +46,7 @@ module _ {chip : LargeChip} (ok : Judged chip) where
   in_region b h = (omega arith, omega (arith, ok.within))
 
   place_harmless : {r : Region chip} {k j : Kind} {b g : ℕ} {x c : Table} {rest es : List Step} {e : Step} → Placing r k j b g x c rest (e ∷ es) → Harmless r e
-  place_harmless {b = b} (place-start w t cl ft hb ne) = (in_region b hb, ft)
+  place_harmless {b = b} (place_start w t cl ft hb ne) = (in_region b hb, ft)
   place_harmless {b = b} (place_fill n q e w f) = (in_region b f.in-region, omega arith)
   place_harmless (place_retire {z = z} w t cl hz nz nb ft hb ne) = in_region z hz
 

@@ -19,7 +19,7 @@ use Rattle.bbt.proofs.Failing.{Turn, first_copy, last_copy, Doing, doing_first, 
 use Rattle.bbt.proofs.Forms.{Sole, Clear, Lacks, Whole, Frame, missing_clear}
 use Rattle.bbt.proofs.LeftPages.{Judged, Twin, primary_kind, mirror_kind}
 use Rattle.bbt.proofs.Numbering.{Tracked}
-use Rattle.bbt.proofs.Placing.{Did, Broke, erase_frame, Placing, place-start, place_fill, place_retire, Went, more, placed, Remains, place_done, place_cut, place_frame, place_twin, remains_twin, remains_clear}
+use Rattle.bbt.proofs.Placing.{Did, Broke, erase_frame, Placing, place_start, place_fill, place_retire, Went, more, placed, Remains, place_done, place_cut, place_frame, place_twin, remains_twin, remains_clear}
 
 -- ---- which copy it is
 -- its kind, and the other's
@@ -82,14 +82,14 @@ module _ {chip : LargeChip} (ok : Judged chip) where
       record {
         role = o;
         full = len;
-        placing = rw (steps_at (pages_of chip) g x b o) (place-start refl t cl ft hb ne);
+        placing = rw (steps_at (pages_of chip) g x b o) (place_start refl t cl ft hb ne);
         held = held_first ok (fresh (job_at d k g x b)) l e (doing_at b g x o);
       }
 
   -- the step at block b, or zeros
   place_at : {r : Region chip} {k j : Kind} {b g : ℕ} {x c : Table} {rest : List Step} {e : Step} {es : List Step} → Placing r k j b g x c rest (e ∷ es)
       → (At e b × Clear r k b) ⊎ ((z : ℕ) × (e ≡ zeros z))
-  place_at (place-start w t cl ft hb ne) = inl (erase_at, cl)
+  place_at (place_start w t cl ft hb ne) = inl (erase_at, cl)
   place_at {b = b} (place_fill n q e w l) = inl (write_at, missing_clear ok l.lacking b)
   place_at (place_retire {z = z} w t cl hz nz nb ft hb ne) = inr (z, refl)
 

@@ -6,6 +6,5 @@ pub mod Parity
 pub mod Words
 pub mod Bytes
 pub mod Filling
-pub mod Parts
 pub mod Gathering
 pub mod Zipped

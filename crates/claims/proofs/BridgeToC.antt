@@ -16,7 +16,7 @@ use Rattle.bbt.specs.Told.{chip_block, told_plan, told_answer, told_steps}
 use Rattle.chip.specs.Large.{bitmap_bytes}
 use Rattle.chip.specs.declared.LargeChip.{LargeChip}
 use Rattle.images.specs.Made.{image_answer_by, image_after_by}
-use Rattle.steps.specs.Steps.{steps_put}
+use Rattle.packing.specs.Packing.{steps_put}
 use Rattle.reamsickle.specs.LargeBoundary.{table_code_by, plan_code_by, steps_put_by, image_code_by}
 use Rattle.table.proofs.Bridge.{read_bridged}
 use Rattle.table.specs.Tables.{told_reading, room_by}

@@ -28,8 +28,7 @@ use Rattle.chip.specs.declared.LargeChip.{LargeChip}
 use Rattle.chip.specs.declared.Refusal.{Refusal}
 use Rattle.chip.specs.declared.Refusal.TheVariants.{NoTarget, ZeroFailed}
 use Rattle.images.specs.Made.{image_answer_by, image_after_by}
-use Rattle.packing.specs.Packing.{refusal_code}
-use Rattle.steps.specs.Steps.{steps_put}
+use Rattle.packing.specs.Packing.{refusal_code, steps_put}
 use Rattle.reamsickle.specs.LargeBoundary.{plan_code_by, image_code_by}
 use Rattle.claims.specs.Driver.{refusal_in, steps_in, zeroes, driver_step, place_of, StepTouches, plan_told, steps_told, page_told, table_told, StepDone, StepCut, RestKept, DriverHand, nothing, doing, DriverWorld, at, as_told, StepsLeft, DriverEvent, refused as was-refused, update as was-updated, recovery as was-recovered, done as was-done, cut as was-cut, fail as was-failed, give_up as was-given-up, cut_between as was-cut-between, no_step_left as had-no-step, no_plan as had-no-plan, DriverHistory, start as at-start, next as and_then}
 use Rattle.claims.specs.DriverCuts.{region_at, Answers, DriverStart, from_settled, DriverSettles, DriverHarmless, Retires, DriverFails, DriverNext, DriverPromise, Demand3InC}

@@ -35,8 +35,7 @@ use Rattle.chip.specs.declared.LargeChip.{LargeChip}
 use Rattle.chip.specs.declared.Refusal.{Refusal}
 use Rattle.chip.specs.declared.Refusal.TheVariants.{Length}
 use Rattle.images.specs.Made.{image_answer_by, image_after_by}
-use Rattle.packing.specs.Packing.{refusal_code}
-use Rattle.steps.specs.Steps.{step_bytes, plan_bytes, steps_put}
+use Rattle.packing.specs.Packing.{refusal_code, step_bytes, plan_bytes, steps_put}
 use Rattle.plan.proofs.Bridge.{bridged}
 use Rattle.reamsickle.proofs.Room.{plan_room}
 use Rattle.reamsickle.specs.LargeBoundary.{table_code_by, table_code, plan_code_by, steps_put_by, plan_code, steps_after, image_code_by, image_code, room_of}

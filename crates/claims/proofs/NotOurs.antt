@@ -37,21 +37,20 @@ zero_or_six f first second r h e = go (is_repairable first) refl (is_repairable 
     go true ea false eb = omega (arith, rw (ea, eb) at e, told_apart.byte r)
     go true ea true eb = omega (arith, rw (ea, eb) at e)
 
-module _ (bytes spare fields room : List ℕ) (lb : length bytes ≡ 512) (lf : length fields ≡ 11) (lr : length room ≡ 17) where
+module _ (bytes spare fields : List ℕ) (lb : length bytes ≡ 512) (lf : length fields ≡ 11) where
   module _ (r : Refusal) (h : 50 < refusal_number r) where
-    refused : Why spare r → BothRefuse bytes spare fields room (refusal_code r)
+    refused : Why spare r → BothRefuse bytes spare fields (refusal_code r)
     unfolding spare_code spare_fields_after page_code page_fields_after page_data_after data_after page_answer
     refused y =
         let answer = (splits_five spare).told r y in
-        let eleven = eq-eqb (length fields) 11 lf in
-        let seventeen = eq-eqb (length room) 17 lr in
+        let room = eq-eqb (length fields) 11 lf in
         let page = eq-eqb (length bytes) 512 lb in
         record {
-          spare_answered = rw (eleven, answer) refl;
-          page_answered = rw (seventeen, page, answer) refl;
-          spare_fields = rw (eleven, answer) refl;
-          page_fields = rw (seventeen, page, answer) refl;
-          page_data = rw (seventeen, page, answer) refl;
+          spare_answered = rw (room, answer) refl;
+          page_answered = rw (room, page, answer) refl;
+          spare_fields = rw (room, answer) refl;
+          page_fields = rw (room, page, answer) refl;
+          page_data = rw (room, page, answer) refl;
         }
 
     spare_only : spare_code spare fields ≡ refusal_code r → Why spare r
@@ -65,22 +64,20 @@ module _ (bytes spare fields room : List ℕ) (lb : length bytes ≡ 512) (lf : 
         go (Read f) q = absurd (omega (arith, sym (ap spare_code_by q) ∙ code))
         go (Refused x) q = (splits_five spare).only r h (q ∙ ap Refused (code_is x r (sym (ap spare_code_by q) ∙ code)))
 
-    page_only : page_code bytes spare room ≡ refusal_code r → Why spare r
+    page_only : page_code bytes spare fields ≡ refusal_code r → Why spare r
     unfolding page_code page_answer
     page_only e = go (spare_answer spare) refl
       where
         code : page_code_by (by_spare bytes spare (spare_answer spare)) ≡ refusal_code r
-        code = rw (eq-eqb (length room) 17 lr, eq-eqb (length bytes) 512 lb) at e
+        code = rw (eq-eqb (length fields) 11 lf, eq-eqb (length bytes) 512 lb) at e
 
         go : (a : SpareAnswer) → spare_answer spare ≡ a → Why spare r
         go (Read f) q = absurd (zero_or_six f _ _ r h (rw q at code))
         go (Refused x) q = (splits_five spare).only r h (q ∙ ap Refused (code_is x r (rw q at code)))
 
-    exactly : ExactlyWhen bytes spare fields room (refusal_code r) (Why spare r)
+    exactly : ExactlyWhen bytes spare fields (refusal_code r) (Why spare r)
     exactly = record { refused = refused; spare_only = spare_only; page_only = page_only }
 
 pub not_ours_in_c : NotOursInC
-not_ours_in_c bytes spare fields room lb lf lr = (by Erased (omega arith), by NotOurs (omega arith), by NotOursRepaired (omega arith))
-  where
-    by : (r : Refusal) → 50 < refusal_number r → ExactlyWhen bytes spare fields room (refusal_code r) (Why spare r)
-    by = exactly bytes spare fields room lb lf lr
+not_ours_in_c bytes spare fields lb lf =
+    (exactly bytes spare fields lb lf Erased (omega arith), exactly bytes spare fields lb lf NotOurs (omega arith), exactly bytes spare fields lb lf NotOursRepaired (omega arith))

@@ -11,8 +11,7 @@ use Rattle.chip.specs.Large.{chip_of, bitmap_bytes, pages_of}
 use Rattle.chip.specs.declared.ChipAnswer.TheVariants.{Chip}
 use Rattle.chip.specs.declared.LargeChip.{LargeChip}
 use Rattle.chip.specs.declared.Refusal.{Refusal}
-use Rattle.packing.specs.Packing.{refusal_code}
-use Rattle.steps.specs.Steps.{step_bytes}
+use Rattle.packing.specs.Packing.{refusal_code, step_bytes}
 use Rattle.claims.specs.Driver.{refusal_in, version_in, steps_in, primary_in, mirror_in, step_byte, plan_told, steps_told, image_told, page_told, read_told, bitmap_told}
 
 -- for a snapshot: a region, and the numbers of the steps that have failed

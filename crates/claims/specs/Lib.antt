@@ -1,7 +1,6 @@
 pub mod Blocks
 pub mod ReadBack
 pub mod NotOurs
-pub mod Places
 pub mod Dependence
 pub mod Driver
 pub mod Found

@@ -7,4 +7,3 @@ pub mod Counts
 pub mod Verdicts
 pub mod Protection
 pub mod Linear
-pub mod Places

@@ -66,9 +66,9 @@ decoded_through bits x n = go (eqb n 0) (power_of_two n)
 
 -- the reading of flipped bits alone, and what it does to a word as written
 module _ (bits : ℕ) (h : bits < 2 ^ 26) (e : ℕ) where
-  data-flipped : (decoded (bit_xor (encoded bits) e)).bits ≡ bit_xor bits (decoded e).bits
+  data_flipped : (decoded (bit_xor (encoded bits) e)).bits ≡ bit_xor bits (decoded e).bits
   unfolding decoded
-  data-flipped = ap (λ (d : Decoded). d.bits) (decoded_flipped bits h e) ∙ (decoded_through bits (e / 64) (named e)).0
+  data_flipped = ap (λ (d : Decoded). d.bits) (decoded_flipped bits h e) ∙ (decoded_through bits (e / 64) (named e)).0
 
   repair_flipped : (decoded (bit_xor (encoded bits) e)).repair ≡ (decoded e).repair
   unfolding decoded
@@ -120,13 +120,13 @@ protects =
     record {
       clean = λ bits h. ap₂ decoded_by (data_encoded bits h) (named_encoded bits h);
       one = λ bits k h u. (
-        data-flipped bits h (2 ^ k) ∙ ap (bit_xor bits) (one_alone k u).0 ∙ xor_zero_r bits,
+        data_flipped bits h (2 ^ k) ∙ ap (bit_xor bits) (one_alone k u).0 ∙ xor_zero_r bits,
         ap is_repair (repair_flipped bits h (2 ^ k)) ∙ (one_alone k u).1,
       );
       two = λ bits j k h v u ne e.
           two_alone k u j v ne
           (unchanged bits _
-          (sym (data-flipped bits h (bit_xor (2 ^ k) (2 ^ j))) ∙ ap (λ (w : ℕ). (decoded w).bits) (sym (xor_assoc (encoded bits) (2 ^ k) (2 ^ j))) ∙ e));
+          (sym (data_flipped bits h (bit_xor (2 ^ k) (2 ^ j))) ∙ ap (λ (w : ℕ). (decoded w).bits) (sym (xor_assoc (encoded bits) (2 ^ k) (2 ^ j))) ∙ e));
       unused = λ word.
           ap₂ decoded_by (xor_shr word (2 ^ 5) 6 ∙ xor_zero_r (word / 64))
           (named_xor word (2 ^ 5) ∙ ap (bit_xor (named word)) unused_alone ∙ xor_zero_r (named word));

@@ -1,12 +1,12 @@
--- How answers are packed for a C caller: a refusal as a number, and what a spare or a page holds as bytes.
-use Rattle.std.specs.Prelude.{List, [], ◌∷◌, ◌++◌, ℕ, ◌+◌, ◌*◌}
+-- How answers are packed for a C caller: a refusal as a number, what a spare holds and a plan's steps as bytes.
+use Rattle.std.specs.Prelude.{cond, List, [], ◌∷◌, ◌++◌, ℕ, ◌+◌, ◌*◌, ◌/◌, ◌%◌, leb, length, drop}
+use Rattle.bbt.specs.Told.{told_steps}
+use Rattle.bbt.specs.declared.Plan.{Plan}
+use Rattle.bbt.specs.declared.Step.{Step}
+use Rattle.bbt.specs.declared.Step.TheVariants.{Erase, Write, Zero, Past}
 use Rattle.bits.specs.Bytes.{byte_of}
 use Rattle.chip.specs.Refusals.{refusal_number, refusal_detail}
 use Rattle.chip.specs.declared.Refusal.{Refusal}
-use Rattle.ecc.specs.declared.Verdict.{Verdict}
-use Rattle.ecc.specs.declared.Verdict.TheVariants.{Clean, CodeBit, DataBit, NotRepairable}
-use Rattle.page.specs.Pages.{page_repairs}
-use Rattle.page.specs.declared.PageFields.{PageFields}
 use Rattle.spare.specs.declared.SpareFields.{SpareFields}
 
 -- a refusal: bits 0-7 its number, its detail above
@@ -29,13 +29,24 @@ field_bytes f repairs =
     ∷ repairs
     ∷ []
 
--- document 02, T-05: the place that was put right in a half, in three bytes: 01, data byte, bit; 02, code bit, 00; where nothing was, 00 00 00
-abbrev pub place_bytes : Verdict → List ℕ
-place_bytes Clean = 0 ∷ 0 ∷ 0 ∷ []
-place_bytes (DataBit a b) = 1 ∷ a ∷ b ∷ []
-place_bytes (CodeBit j) = 2 ∷ j ∷ 0 ∷ []
-place_bytes NotRepairable = 0 ∷ 0 ∷ 0 ∷ []
+-- a step in four bytes: kind, chip block big endian, page. No plan holds a step past its end
+abbrev pub four_bytes : ℕ → ℕ → ℕ → List ℕ
+four_bytes kind block page = kind ∷ block / 256 % 256 ∷ block % 256 ∷ page ∷ []
 
--- the seventeen bytes of what was read of a page: its spare, with the repairs of the page, and the place of each half, first half first
-unfoldable pub page_bytes : PageFields → List ℕ
-page_bytes f = field_bytes f.spare (page_repairs f) ++ (place_bytes f.first ++ place_bytes f.second)
+abbrev pub step_bytes : Step → List ℕ
+step_bytes (Erase b) = four_bytes 0 b.0 0
+step_bytes (Write b p k) = four_bytes 1 b.0 p
+step_bytes (Zero b) = four_bytes 2 b.0 0
+step_bytes Past = four_bytes 0 0 0
+
+unfoldable pub plan_bytes : List Step → List ℕ
+plan_bytes [] = []
+plan_bytes (s ∷ ss) = step_bytes s ++ plan_bytes ss
+
+-- the lent bytes with the steps put first; those past the last step keep what they held
+unfoldable pub steps_put : List Step → List ℕ → List ℕ
+steps_put ss room = plan_bytes ss ++ drop (4 * length ss) room
+
+-- the same, where there is room for them
+unfoldable pub steps_into : Plan → List ℕ → List ℕ
+steps_into q room = cond (leb (4 * length (told_steps q)) (length room)) (steps_put (told_steps q) room) room

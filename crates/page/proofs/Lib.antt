@@ -1,4 +1,3 @@
 pub mod Counting
 pub mod TwoHalves
 pub mod ReadBack
-pub mod Places

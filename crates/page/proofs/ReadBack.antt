@@ -13,16 +13,14 @@ use Rattle.chip.specs.declared.Half.TheVariants.{First, Second}
 use Rattle.chip.specs.declared.Refusal.TheVariants.{Unrepairable}
 use Rattle.ecc.specs.Claims.{Protects, told}
 use Rattle.ecc.specs.Flips.{Place, data_at, code_at, Real, named, written as kept}
-use Rattle.ecc.specs.Places.{places}
-use Rattle.ecc.specs.Verdicts.{half_start, mended}
-use Rattle.ecc.proofs.Places.{named_places}
+use Rattle.ecc.specs.Verdicts.{half_start, mended, repairs}
 use Rattle.ecc.proofs.Protection.{protects}
 use Rattle.spare.specs.Claims.{Writable, spare_fields_of}
 use Rattle.spare.specs.Writing.{first_half, second_half}
 use Rattle.spare.proofs.ReadBack.{spare_reads_back}
 use Rattle.page.specs.declared.PageAnswer.{PageAnswer}
 use Rattle.page.specs.declared.PageAnswer.TheVariants.{Refused}
-use Rattle.page.specs.Claims.{Page, written, flipped, Flips, none, one, two, RealFlips, with_flips, flip_verdict, flip_places, unless_two, flip_answer, flip_data, Reading, ReadsBack}
+use Rattle.page.specs.Claims.{Page, written, flipped, Flips, none, one, two, RealFlips, with_flips, flip_verdict, flip_repairs, unless_two, flip_answer, flip_data, Reading, ReadsBack}
 use Rattle.page.specs.Pages.{is_repairable, by_verdicts, data_by}
 use Rattle.page.proofs.TwoHalves.{kept_with, flips_in, start, page_second, page_both, page_length, page_read}
 
@@ -30,6 +28,10 @@ use Rattle.page.proofs.TwoHalves.{kept_with, flips_in, start, page_second, page_
 named_repairable : (q : Place) → is_repairable (named q) ≡ true
 named_repairable (data_at a b) = refl
 named_repairable (code_at j) = refl
+
+named_repairs : (q : Place) → repairs (named q) ≡ 1
+named_repairs (data_at a b) = refl
+named_repairs (code_at j) = refl
 
 start_le : (h : Half) → half_start h ≤ 256
 start_le First = omega arith
@@ -47,10 +49,10 @@ flips_told half p none s = p.clean
 flips_told half p (one q) s = p.one q s
 flips_told half p (two q r) s = p.two q r s.0 s.1 s.2
 
-flips_located : (f : Flips) → places (flip_verdict f) ≡ flip_places f
-flips_located none = refl
-flips_located (one q) = named_places q
-flips_located (two q r) = refl
+flips_repairs : (f : Flips) → repairs (flip_verdict f) ≡ flip_repairs f
+flips_repairs none = refl
+flips_repairs (one q) = named_repairs q
+flips_repairs (two q r) = refl
 
 -- two are refused, fewer are put right
 flips_answer : (h : Half) (f : Flips) (a : PageAnswer) → cond (is_repairable (flip_verdict f)) a (Refused (Unrepairable h)) ≡ unless_two h f a
@@ -107,6 +109,5 @@ reads_back bytes tag path count w =
     record {
       spare = spare_reads_back bytes tag path count w;
       reads = reads w;
-      located = λ f g. (flips_located f, flips_located g);
-      counted = λ f g. omega (arith, ap length (flips_located f), ap length (flips_located g));
+      counted = λ f g. omega (arith, flips_repairs f, flips_repairs g);
     }

@@ -7,8 +7,8 @@ use Rattle.boot.specs.declared.MapAnswer.TheVariants.{Mapped, OutOfOrder, Refuse
 use Rattle.chip.specs.declared.Refusal.TheVariants.{Length}
 use Rattle.ecc.specs.Half.{code_of}
 use Rattle.ecc.specs.declared.Code.{Code}
-use Rattle.packing.specs.Packing.{refusal_code, field_bytes, page_bytes}
-use Rattle.page.specs.Pages.{page_answer, data_after}
+use Rattle.packing.specs.Packing.{refusal_code, field_bytes}
+use Rattle.page.specs.Pages.{page_answer, data_after, page_repairs}
 use Rattle.page.specs.declared.PageAnswer.{PageAnswer}
 use Rattle.page.specs.declared.PageAnswer.TheVariants.{Read as PageRead, Refused as PageRefused}
 use Rattle.spare.specs.Reading.{spare_answer, spare_repairs}
@@ -61,17 +61,17 @@ page_code_by (PageRead f) = 0
 page_code_by (PageRefused r) = refusal_code r
 
 abbrev pub page_fields_by : PageAnswer → List ℕ → List ℕ
-page_fields_by (PageRead f) fields = page_bytes f
+page_fields_by (PageRead f) fields = field_bytes f.spare (page_repairs f)
 page_fields_by (PageRefused r) fields = fields
 
 unfoldable pub page_code : List ℕ → List ℕ → List ℕ → ℕ
-page_code bytes spare fields = cond (eqb (length fields) 17) (page_code_by (page_answer bytes spare)) (refusal_code Length)
+page_code bytes spare fields = cond (eqb (length fields) 11) (page_code_by (page_answer bytes spare)) (refusal_code Length)
 
 unfoldable pub page_data_after : List ℕ → List ℕ → List ℕ → List ℕ
-page_data_after bytes spare fields = cond (eqb (length fields) 17) (data_after bytes spare) bytes
+page_data_after bytes spare fields = cond (eqb (length fields) 11) (data_after bytes spare) bytes
 
 unfoldable pub page_fields_after : List ℕ → List ℕ → List ℕ → List ℕ
-page_fields_after bytes spare fields = cond (eqb (length fields) 17) (page_fields_by (page_answer bytes spare) fields) fields
+page_fields_after bytes spare fields = cond (eqb (length fields) 11) (page_fields_by (page_answer bytes spare) fields) fields
 
 -- ---- ream_boot_map: how many blocks are mapped in bits 8-23, and how many are to be erased in bits 24-39; refusal 13 with the boot number above
 abbrev pub map_code_by : MapAnswer → ℕ

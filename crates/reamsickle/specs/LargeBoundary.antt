@@ -14,8 +14,7 @@ use Rattle.chip.specs.Large.{chip_of}
 use Rattle.chip.specs.declared.Refusal.TheVariants.{Length}
 use Rattle.images.specs.declared.ImageAnswer.{ImageAnswer}
 use Rattle.images.specs.declared.ImageAnswer.TheVariants.{Made as ImageMade, Refused as NoImage}
-use Rattle.packing.specs.Packing.{refusal_code}
-use Rattle.steps.specs.Steps.{steps_put}
+use Rattle.packing.specs.Packing.{refusal_code, steps_put}
 use Rattle.plan.specs.PageImages.{image_answer}
 use Rattle.table.specs.Tables.{table_answer}
 use Rattle.table.specs.declared.TableAnswer.{TableAnswer}

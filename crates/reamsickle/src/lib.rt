@@ -29,7 +29,7 @@ const OUT_OF_ORDER: u64 = 13;
 // The bytes that tell what a spare holds, and what a page holds.
 const SPARE_FIELDS: usize = SmallChip::FIELDS;
 
-const PAGE_FIELDS: usize = SmallChip::PAGE_FIELDS;
+const PAGE_FIELDS: usize = SmallChip::FIELDS;
 
 // The bytes of a plan's steps: sixteen of four.
 const STEPS: usize = 64;
@@ -89,7 +89,7 @@ pub extern "C" fn ream_spare_read(spare: &[u8], fields: &mut [u8]) -> u64
     }
 }
 
-// Reads a page: 512 data bytes, put right in place where the whole read succeeds, and sixteen spare bytes in; seventeen out.
+// Reads a page: 512 data bytes, put right in place where the whole read succeeds, and sixteen spare bytes in; eleven out.
 #[unsafe(no_mangle)]
 pub extern "C" fn ream_page_read(bytes: &mut [u8], spare: &[u8], fields: &mut [u8]) -> u64
     ensures answer { result ≡ page_code bytes.old spare.now fields.old }
@@ -102,7 +102,8 @@ pub extern "C" fn ream_page_read(bytes: &mut [u8], spare: &[u8], fields: &mut [u
     match page::read_page(bytes, spare) {
         PageAnswer::Refused(r) => packing::refusal_code(r),
         PageAnswer::Read(f) => {
-            packing::put_page(f, fields);
+            let told = f.spare;
+            packing::put_fields(told, f.repairs(), fields);
             ANSWERED
         }
     }
@@ -174,7 +175,7 @@ fn tell_answer(answer: PlanAnswer, steps: &mut [u8]) -> u64
         PlanAnswer::Refused(r) => packing::refusal_code(r),
         PlanAnswer::Planned(plan) => {
             let version = plan.version;
-            steps::put_plan(plan, steps);
+            packing::put_plan(plan, steps);
             256 * (version as u64) + 65536 * (plan.step_count() as u64) + ANSWERED
         }
     }

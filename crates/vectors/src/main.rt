@@ -158,7 +158,7 @@ fn run(name: &[u8], kind: Kind) {
 fn erased(byte: u8) {
     let mut bytes = [byte; 512];
     let spare = [0xFFu8; 16];
-    let mut fields = [0u8; 17];
+    let mut fields = [0u8; 11];
     let r = reamsickle::ream_page_read(&mut bytes, &spare, &mut fields);
     put(b"erased spare, data ");
     io::print_hex(STDOUT_FILENO, wide(byte), 2);

@@ -1,11 +1,10 @@
--- `ream_page_read` meets its contract: the answer of `read_page` as a number and seventeen bytes.
+-- `ream_page_read` meets its contract: the answer of `read_page` as a number and eleven bytes.
 -- Assumes nothing.
-use mathlib.Core.Path.{sym, ◌∙◌}
+use mathlib.Core.Path.{refl, sym, ◌∙◌}
 use native.Mathlib.Omega.{arith}
 use borrow.Author.Tests.{eq-eqb, ne_eqb}
 use lib.ListN.{length}
 use Rattle.bits.proofs.Filling.{copied_same}
-use Rattle.packing.proofs.Pages.{page_long}
 use Rattle.reamsickle.specs.Boundary.{page_code, page_data_after, page_fields_after}
 use borrow.Author.Rules.{rules}
 use Rattle.reamsickle.proofs.ream_page_read.Statement.{statement}
@@ -17,7 +16,7 @@ refusal-code-requires c κs = search rules
 returns : tie.Need-returns
 unfolding page_code page_data_after page_fields_after
 returns c =
-    let e = ne_eqb (length c.before.before.before.before.before.args.fields.now) 17 (λ told. c.before.if1.true (omega arith)) in
+    let e = ne_eqb (length c.before.before.before.before.before.args.fields.now) 11 (λ told. c.before.if1.true (omega arith)) in
     (c.refusal-code.ensures ∙ simp e, (simp e, simp e))
 
 read-page-requires : tie.Need-read-page-requires
@@ -32,8 +31,11 @@ refusal-code-requires-2 c κs = search rules
 enum-known-f : tie.Need-enum-known-f
 enum-known-f c = search rules
 
-put-page-requires : tie.Need-put-page-requires
-put-page-requires c κs = search rules
+repairs-requires : tie.Need-repairs-requires
+repairs-requires c κs = search rules
+
+put-fields-requires : tie.Need-put-fields-requires
+put-fields-requires c κs = search rules
 
 same_length : tie.Need-same-length
 same_length c = search rules
@@ -55,12 +57,10 @@ same-length-3 c = search rules
 returns-3 : tie.Need-returns-3
 unfolding page_code page_data_after page_fields_after
 returns-3 c =
-    let told = c.before.before.before.before.before.before.before.before.before.before.before.if1.false in
-    let e = eq-eqb _ _ told in
-    let p = c.before.before.before.before.before.before.before.before.before.read-page.ensures in
-    let f = c.before.before.before.before.before.f.given.0.0 in
-    let a = sym p.0 ∙ c.before.before.before.before.before.f.given.1 in
-    (simp (e, a), (simp e p.1, simp (e, a) (c.before.before.put-page.ensures ∙ copied_same _ _ (told ∙ sym (page_long f)))))
+    let e = eq-eqb _ _ c.before.before.before.before.before.before.before.before.before.before.before.before.before.if1.false in
+    let p = c.before.before.before.before.before.before.before.before.before.before.before.read-page.ensures in
+    let a = sym p.0 ∙ c.before.before.before.before.before.before.before.f.given.1 in
+    (simp (e, a), (simp e p.1, simp (e, a) (c.before.before.put-fields.ensures ∙ copied_same _ _ c.before.before.before.before.before.before.before.before.before.before.before.before.before.if1.false ∙ rw c.before.before.before.before.repairs.ensures refl)))
 
 pub ream_page_read_spec : {M : Type 1} → statement M
 ream_page_read_spec =
@@ -72,7 +72,8 @@ ream_page_read_spec =
     enum-known-r
     refusal-code-requires-2
     enum-known-f
-    put-page-requires
+    repairs-requires
+    put-fields-requires
     same_length
     returns-2
     same-length-2

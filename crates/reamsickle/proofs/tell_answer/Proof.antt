@@ -5,7 +5,7 @@ use Prim.Native.Nat.{ℕ, ◌+◌, ◌*◌, ◌≤◌}
 use native.Mathlib.Nat.{add-zero}
 use native.Mathlib.Omega.{arith}
 use Rattle.bbt.specs.declared.PlanAnswer.{PlanAnswer}
-use Rattle.steps.proofs.Steps.{into_room}
+use Rattle.packing.proofs.Steps.{into_room}
 use Rattle.reamsickle.specs.LargeBoundary.{room_of}
 use borrow.Author.Rules.{rules}
 use Rattle.reamsickle.proofs.tell_answer.Statement.{statement}

@@ -1,7 +1,7 @@
--- `PageFields::repairs` meets its contract: five counts of at most 1 fit a byte, and a half counts its places.
+-- `PageFields::repairs` meets its contract: five counts of at most 1 fit a byte.
 -- Assumes nothing.
 use native.Mathlib.Omega.{arith}
-use Rattle.page.proofs.Counting.{spare_le, repairs_le, counts_places}
+use Rattle.page.proofs.Counting.{spare_le, repairs_le}
 use borrow.Author.Rules.{rules}
 use Rattle.page.proofs.PageFields.repairs.Statement.{statement}
 use Rattle.page.proofs.PageFields.repairs.Tie as tie
@@ -22,7 +22,7 @@ add-result-2 : tie.Need-overflow-add-result-2
 add-result-2 c = omega (arith, c.before.before.repairs.ensures, spare_le c.before.before.before.before.before.args.self.spare.repaired, c.before.repairs2.ensures, repairs_le c.before.before.before.before.before.args.self.first, c.repairs3.ensures, repairs_le c.before.before.before.before.before.args.self.second)
 
 returns : tie.Need-returns
-returns c = omega (arith, c.before.before.repairs.ensures, c.before.repairs2.ensures, c.repairs3.ensures, counts_places c.before.before.before.before.before.args.self)
+returns c = search rules
 
 pub repairs_spec : {M : Type 1} → statement M
 repairs_spec =
