@@ -1,4 +1,6 @@
 // The rules of the bad-block table: the definitions are in specs/, and this is what code and definitions share: kinds, cases, plans, steps.
+#![tactic(auto)]
+
 ghost use Rattle.std.specs.Prelude.{[], ◌≡◌, ◌<◌, ◌≤◌, length};
 ghost use Rattle.bbt.specs.Pages.{kind_of_word, kind_word};
 ghost use Rattle.bbt.specs.Pairs.{difference};
@@ -7,7 +9,7 @@ ghost use Rattle.bbt.specs.Told.{chip_block, copy_step, steps_by, retired_first,
 use chip::{ChipBlock, LargeChip, Refusal, RegionBlock};
 
 // What a page's signature says: a page of a primary, of a mirror, or neither.
-#[derive(Drop)]
+#[derive(Clone, Copy)]
 pub enum Kind {
     Primary,
     Mirror,
@@ -64,7 +66,7 @@ pub fn chip_block(chip: LargeChip, b: RegionBlock) -> ChipBlock
 }
 
 // The pair's case.
-#[derive(Drop)]
+#[derive(Clone, Copy)]
 pub enum PairCase {
     // no pair to speak of, and why: refusal 8, 7 or 9
     Refused(Refusal),
@@ -79,7 +81,7 @@ pub enum PairCase {
 }
 
 // What a plan writes: nothing; one copy of a kind to a block, beside the other kind's in another; or the primary and then the mirror.
-#[derive(Drop)]
+#[derive(Clone, Copy)]
 pub enum Shape {
     Empty,
     One(Kind, RegionBlock, RegionBlock),
@@ -87,14 +89,14 @@ pub enum Shape {
 }
 
 // The block that has failed last under a plan, which gets zeros first, if one has.
-#[derive(Drop)]
+#[derive(Clone, Copy)]
 pub enum Retired {
     Nothing,
     Block(RegionBlock),
 }
 
 // A plan: the version that it tells and writes, its chip, the block that it retires, and what it writes.
-#[derive(Drop)]
+#[derive(Clone, Copy)]
 pub struct Plan {
     pub version: u8,
     pub chip: LargeChip,
@@ -103,14 +105,14 @@ pub struct Plan {
 }
 
 // What planning answers.
-#[derive(Drop)]
+#[derive(Clone, Copy)]
 pub enum PlanAnswer {
     Planned(Plan),
     Refused(Refusal),
 }
 
 // A step of a plan, or none of that number: a block erased, a page of a copy written, or zeros to the OOB bytes of a block's first page.
-#[derive(Drop)]
+#[derive(Clone, Copy)]
 pub enum Step {
     Erase(ChipBlock),
     Write(ChipBlock, u8, Kind),

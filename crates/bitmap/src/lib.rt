@@ -1,4 +1,6 @@
 // The loops over bitmaps: the update rule, the AND and equality of two.
+#![tactic(auto)]
+
 ghost use Rattle.std.specs.Prelude.{◌≡◌, eqb, length};
 ghost use Rattle.bbt.specs.Entries.{updated_byte};
 ghost use Rattle.bbt.specs.Pairs.{same};

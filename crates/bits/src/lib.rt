@@ -1,4 +1,6 @@
 // Bits and bytes: the definitions (specs/) and the laws (proofs/) that more than one crate cites.
+#![tactic(auto)]
+
 ghost use Rattle.std.specs.Prelude.{◌≡◌, ◌+◌, ◌*◌, ◌/◌, ◌%◌};
 ghost use Rattle.bits.specs.Bytes.{word, word_bytes, copied};
 

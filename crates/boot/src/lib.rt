@@ -1,5 +1,7 @@
 // The map of the small chip's boot blocks, from the spares of each block's first and last page. Every spare is read once; how each boot number
 // stands is kept in a slot; then the numbers are judged in their order, and only then the lists are written.
+#![tactic(auto)]
+
 ghost use Rattle.std.specs.Prelude.{◌⊎◌, ◌≡◌, ◌+◌, ◌*◌, ◌<◌, ◌≤◌, length};
 ghost use Rattle.boot.specs.Answers.{map_answer, block_bytes, starting_with, list_by, list_after};
 ghost use Rattle.boot.specs.Counting.{path_by, counted_by, agreed, block_at};
@@ -23,21 +25,21 @@ const LISTED: usize = 2;
 const SLOTS: usize = 1024;
 
 // The path of a boot page; or it is none.
-#[derive(Drop)]
+#[derive(Clone, Copy)]
 enum PagePath {
     Path(u32),
     NotBoot,
 }
 
 // What a block tells: its boot number and generation; or it is passed over.
-#[derive(Drop)]
+#[derive(Clone, Copy)]
 pub enum Counted {
     Counts(BootNumber, Generation),
     PassedOver,
 }
 
 // How a boot number stands: the blocks that carry it, of two the older first; wrong are any other two, and more.
-#[derive(Drop)]
+#[derive(Clone, Copy)]
 pub enum Standing {
     Missing,
     One(ChipBlock, Generation),
@@ -46,21 +48,21 @@ pub enum Standing {
 }
 
 // The two lists: the blocks that are mapped, and those that are to be erased.
-#[derive(Drop)]
+#[derive(Clone, Copy)]
 pub enum Listing {
     ToMap,
     ToErase,
 }
 
 // How many blocks stand in either list.
-#[derive(Drop)]
+#[derive(Clone, Copy)]
 pub struct MapCounts {
     pub mapped: u16,
     pub erased: u16,
 }
 
 // What mapping the boot blocks answers: both counts; refusal 13 with the smallest boot number that is out of order; or another refusal.
-#[derive(Drop)]
+#[derive(Clone, Copy)]
 pub enum MapAnswer {
     Mapped(MapCounts),
     OutOfOrder(BootNumber),
@@ -253,7 +255,7 @@ fn smallest_out(slots: &[u32], end: usize) -> usize
 }
 
 // What a number brings to a list.
-#[derive(Drop)]
+#[derive(Clone, Copy)]
 enum Entry {
     Block(ChipBlock),
     Nothing,

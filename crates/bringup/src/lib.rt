@@ -1,4 +1,6 @@
 // A chip's first pair of tables: the pages of a copy that no plan writes. How they are used, and what holds then, is in specs/FirstPair.antt.
+#![tactic(auto)]
+
 ghost use Rattle.std.specs.Prelude.{◌≡◌, length};
 ghost use Rattle.bringup.specs.TablePages.{kind_numbered, is_copy_page, copy_image, table_page_answer, table_page_after};
 ghost use Rattle.images.specs.Made.{image_answer_by, image_after_by};

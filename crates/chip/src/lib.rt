@@ -1,11 +1,13 @@
 // The two kinds of chip with their sizes, the numbers that must not be mixed, and the refusals.
+#![tactic(auto)]
+
 ghost use Rattle.std.specs.Prelude.{◌≡◌, ◌%◌};
 ghost use Rattle.chip.specs.Boot.{path_of, boot_of, follows};
 ghost use Rattle.chip.specs.Large.{is_blocks, is_region, is_chip, chip_of, bitmap_bytes, pages_of, region_pages, region_bytes};
 ghost use Rattle.chip.specs.Refusals.{refusal_number, refusal_detail};
 
 // The small chip: 512 data bytes and 16 spare bytes a page, in two halves with a code of three bytes each.
-#[derive(Drop)]
+#[derive(Clone, Copy)]
 pub struct SmallChip;
 
 impl SmallChip {
@@ -49,14 +51,14 @@ impl SmallChip {
 }
 
 // The large chip: 2,048 data bytes and 64 OOB bytes a page; its number of blocks, and how many of the last hold the tables.
-#[derive(Drop)]
+#[derive(Clone, Copy)]
 pub struct LargeChip {
     pub region: u8,
     pub blocks: u16,
 }
 
 // A large chip, or the refusal of its numbers of blocks.
-#[derive(Drop)]
+#[derive(Clone, Copy)]
 pub enum ChipAnswer {
     Chip(LargeChip),
     Refused(Refusal),
@@ -169,30 +171,30 @@ fn is_region(n: u64, size: u64) -> bool
 }
 
 // The number of a boot block, as a path tells it. Never a chip block's number.
-#[derive(Drop)]
+#[derive(Clone, Copy)]
 pub struct BootNumber(pub u32);
 
 // How often a boot block was copied, modulo 4.
-#[derive(Drop)]
+#[derive(Clone, Copy)]
 pub struct Generation(pub u8);
 
 // The number of a block on its chip.
-#[derive(Drop)]
+#[derive(Clone, Copy)]
 pub struct ChipBlock(pub u32);
 
 // The number of a block in the table region, from 0, lowest first.
-#[derive(Drop)]
+#[derive(Clone, Copy)]
 pub struct RegionBlock(pub u8);
 
 // The path of a boot page, or its refusal.
-#[derive(Drop)]
+#[derive(Clone, Copy)]
 pub enum PathAnswer {
     Path(u32),
     Refused(Refusal),
 }
 
 // A path's boot number and generation, or its refusal.
-#[derive(Drop)]
+#[derive(Clone, Copy)]
 pub enum BootAnswer {
     Boot(BootNumber, Generation),
     Refused(Refusal),
@@ -233,21 +235,21 @@ impl BootNumber {
 }
 
 // What a bad status byte tells of its block.
-#[derive(Drop)]
+#[derive(Clone, Copy)]
 pub enum BadKind {
     Factory,
     Late,
 }
 
 // The halves of a small page: data bytes 0 to 255, and 256 to 511.
-#[derive(Drop)]
+#[derive(Clone, Copy)]
 pub enum Half {
     First,
     Second,
 }
 
 // The refusals of document 01 and of document 02, but for 13, which has a boot number with it (`boot::MapAnswer`).
-#[derive(Drop)]
+#[derive(Clone, Copy)]
 pub enum Refusal {
     Length,
     Range,

@@ -1,5 +1,7 @@
 // The half-page code of the small chip (the SmartMedia/SSFDC scheme): 22 parities of 256 bytes in three stored bytes.
 // It puts one flipped bit right and tells two from it.
+#![tactic(auto)]
+
 ghost use Rattle.std.specs.Prelude.{◌≡◌, ◌+◌, ◌*◌, ◌<◌, ◌≤◌, length, drop};
 ghost use Rattle.bits.specs.Bits.{number};
 ghost use Rattle.ecc.specs.Half.{code_of, stored_bit, difference};
@@ -9,7 +11,7 @@ ghost use Rattle.ecc.specs.Verdicts.{count_set, last_set, one_in_each, verdict, 
 use chip::{Half, SmallChip};
 
 // A code as it is stored: LP7 to LP0, LP15 to LP8, CP5 to CP0 above two 1s; all inverted.
-#[derive(Drop)]
+#[derive(Clone, Copy)]
 pub struct Code {
     pub one: u8,
     pub two: u8,
@@ -18,7 +20,7 @@ pub struct Code {
 
 // What a half and its stored code tell: a code bit by its number from 0 to 21 (LP0 to LP15, CP0 to CP5), a data bit by its byte and its
 // number in it.
-#[derive(Drop)]
+#[derive(Clone, Copy)]
 pub enum Verdict {
     Clean,
     CodeBit(u8),
@@ -49,7 +51,7 @@ fn parity(x: u8) -> u8
     (two ^ (two >> 1)) % 2
 }
 
-#[derive(Drop)]
+#[derive(Clone, Copy)]
 struct RunSums {
     line: u8,
     all: u8,

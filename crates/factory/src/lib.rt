@@ -1,4 +1,6 @@
 // The first bitmap of a chip, from the marks of the factory.
+#![tactic(auto)]
+
 ghost use Rattle.std.specs.Prelude.{cond, [], ◌∷◌, ◌≡◌, ◌+◌, ◌*◌, ◌≤◌, length};
 ghost use Rattle.bits.specs.Bytes.{build};
 ghost use Rattle.bbt.specs.Entries.{entries_byte, mark_entry, first_byte, first_bitmap};
@@ -17,7 +19,7 @@ const TOP_BITS: u64 = 0x8080808080808080;
 const ONE_A_BLOCK: u64 = 0x0001000100010001;
 
 // What making the first bitmap answers.
-#[derive(Drop)]
+#[derive(Clone, Copy)]
 pub enum BitmapAnswer {
     Made,
     Refused(Refusal),

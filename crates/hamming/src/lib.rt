@@ -1,5 +1,7 @@
 // The protected word of a small page's spare: 26 data bits in bits 31 to 6, bit 5 unused, 5 check bits in bits 4 to 0.
 // It puts one flipped bit right; path and magic-and-count are both such words.
+#![tactic(auto)]
+
 ghost use Rattle.std.specs.Prelude.{◌≡◌, ◌<◌, ◌%◌};
 ghost use Rattle.std.specs.Int.Count.{ones};
 ghost use Rattle.hamming.specs.Word.{check_bits, encoded, data_bit_of, is_repair, decoded};
@@ -7,7 +9,7 @@ ghost use Rattle.hamming.specs.Word.{check_bits, encoded, data_bit_of, is_repair
 use chip::SmallChip;
 
 // What was repaired in a word.
-#[derive(Drop)]
+#[derive(Clone, Copy)]
 pub enum Repair {
     Clean,
     CheckBit,
@@ -15,7 +17,7 @@ pub enum Repair {
 }
 
 // The 26 data bits of a word that was read, and what was repaired.
-#[derive(Drop)]
+#[derive(Clone, Copy)]
 pub struct Decoded {
     pub bits: u32,
     pub repair: Repair,

@@ -1,4 +1,6 @@
 // Page images of the large chip: the pages of a copy of a table as they are written.
+#![tactic(auto)]
+
 ghost use Rattle.std.specs.Prelude.{◌≡◌, length, replicate};
 ghost use Rattle.bbt.specs.Images.{chunk};
 ghost use Rattle.images.specs.Made.{image_into, finish_into};
@@ -7,7 +9,7 @@ use bbt::Kind;
 use chip::{LargeChip, Refusal};
 
 // What asking for a page image answers.
-#[derive(Drop)]
+#[derive(Clone, Copy)]
 pub enum ImageAnswer {
     Made,
     Refused(Refusal),

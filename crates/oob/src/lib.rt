@@ -1,4 +1,6 @@
 // The OOB bytes of a page of a lent region image, as a part of the image.
+#![tactic(auto)]
+
 ghost use Rattle.std.specs.Prelude.{◌≡◌, length};
 ghost use Rattle.oob.specs.Oob.{OobOf, extent_of, oob_answer};
 
@@ -6,7 +8,7 @@ use chip::{ChipAnswer, LargeChip, Refusal, RegionBlock};
 
 // How far a region image reaches: how many blocks the region has, and P, the pages of each. Both are 0 where N or
 // the region's size is refused.
-#[derive(Drop)]
+#[derive(Clone, Copy)]
 pub struct Extent {
     pub region: u8,
     pub pages: u8,
@@ -31,7 +33,7 @@ impl Extent {
 }
 
 // What is told of a page's OOB bytes: they are given, or refused.
-#[derive(Drop)]
+#[derive(Clone, Copy)]
 pub enum OobAnswer {
     Given,
     Refused(Refusal),

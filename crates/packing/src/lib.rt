@@ -1,4 +1,6 @@
 // How answers are packed for a C caller: refusals as numbers, what a spare holds and a plan's steps as bytes.
+#![tactic(auto)]
+
 ghost use Rattle.std.specs.Prelude.{[], ◌≡◌, ◌*◌, ◌≤◌, length};
 ghost use Rattle.bbt.specs.Told.{steps_by, retired_first, told_steps};
 ghost use Rattle.bits.specs.Bytes.{copied};

@@ -1,4 +1,6 @@
 // Reading a page of the small chip, its data and its spare, with repair in place.
+#![tactic(auto)]
+
 ghost use Rattle.std.specs.Prelude.{◌≡◌, ◌+◌, length};
 ghost use Rattle.page.specs.Judging.{judged_by};
 ghost use Rattle.page.specs.Pages.{is_repairable, by_verdicts, stored_code, by_spare, page_answer, data_after, page_repairs};
@@ -8,7 +10,7 @@ use ecc::{Code, Verdict};
 use spare::{SpareAnswer, SpareFields};
 
 // What a page tells: its spare's fields, and what was put right in each half.
-#[derive(Drop)]
+#[derive(Clone, Copy)]
 pub struct PageFields {
     pub spare: SpareFields,
     pub first: Verdict,
@@ -29,7 +31,7 @@ impl PageFields {
 }
 
 // What reading a page answers.
-#[derive(Drop)]
+#[derive(Clone, Copy)]
 pub enum PageAnswer {
     Read(PageFields),
     Refused(Refusal),
@@ -48,7 +50,7 @@ fn is_repairable(v: Verdict) -> bool
 }
 
 // What will be answered, and what will be put right in each half.
-#[derive(Drop)]
+#[derive(Clone, Copy)]
 struct Judged {
     answer: PageAnswer,
     first: Verdict,

@@ -1,5 +1,7 @@
 // The code that plans updates and recoveries of the pair of tables, and makes the page images of their writes. By the pair's case a call
 // comes to a work, and its first plan and its page images go by the work; what failed steps make of the plan is the crate `retire`.
+#![tactic(auto)]
+
 ghost use Rattle.std.specs.Prelude.{◌≡◌, ◌*◌, ◌<◌, ◌≤◌, length, take};
 ghost use Rattle.bbt.specs.Images.{chunk, plan_image};
 ghost use Rattle.bbt.specs.Plans.{for_update, for_recovery, next_version, holds, update_from, other_kind};
@@ -21,7 +23,7 @@ use images::ImageAnswer;
 use region::{Beside, LentCase, TargetAnswer};
 
 // What a call comes to by the pair's case.
-#[derive(Drop)]
+#[derive(Clone, Copy)]
 enum Work {
     // nothing, and why
     Refused(Refusal),

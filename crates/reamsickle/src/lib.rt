@@ -1,4 +1,6 @@
 // The C entries: thin functions on numbers and byte slices over the crates below. Each has its answer as one number (include/reamsickle.h).
+#![tactic(auto)]
+
 ghost use Rattle.std.specs.Prelude.{◌≡◌, ◌≤◌, length};
 ghost use Rattle.bbt.specs.Plans.{for_update, for_recovery};
 ghost use Rattle.factory.specs.FirstBitmap.{first_after};

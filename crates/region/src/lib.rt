@@ -1,4 +1,6 @@
 // The code that reads a lent region image: good copies, the pair's case, and the target of a copy.
+#![tactic(auto)]
+
 ghost use Rattle.std.specs.Prelude.{true, ◌≡◌, ◌+◌, ◌*◌, ◌<◌, ◌≤◌, length, set};
 ghost use Rattle.bbt.specs.Copies.{good, reads_bad};
 ghost use Rattle.bbt.specs.Lent.{statuses_right};
@@ -56,7 +58,7 @@ fn good_copy(chip: LargeChip, image: &[u8], status: &[u8], kind: Kind, b: Region
 }
 
 // Which blocks hold a good copy of a kind.
-#[derive(Drop)]
+#[derive(Clone, Copy)]
 enum Located {
     Nowhere,
     Only(RegionBlock),
@@ -79,7 +81,7 @@ fn also(holds: bool, b: RegionBlock, found: Located) -> Located
 }
 
 // The blocks that hold a good copy, of each kind.
-#[derive(Drop)]
+#[derive(Clone, Copy)]
 struct Copies {
     primary: Located,
     mirror: Located,
@@ -228,14 +230,14 @@ fn statuses_right(status: &[u8]) -> bool
 }
 
 // What is lent beside a region: nothing, or a buffer for a bitmap, by its length.
-#[derive(Drop)]
+#[derive(Clone, Copy)]
 pub enum Beside {
     Nothing,
     Bitmap(usize),
 }
 
 // The chip and the pair's case, or the refusal of what was lent.
-#[derive(Drop)]
+#[derive(Clone, Copy)]
 pub enum LentCase {
     Case(LargeChip, PairCase),
     Refused(Refusal),
@@ -347,7 +349,7 @@ fn is_free(
 }
 
 // A target, that there is none, or the refusal of what was lent.
-#[derive(Drop)]
+#[derive(Clone, Copy)]
 pub enum TargetAnswer {
     Found(RegionBlock),
     Missing,

@@ -1,5 +1,7 @@
 // Plans after failed steps. The chip reports that an erase or a write has failed: its block is retired, by zeros to the OOB bytes of its first
 // page, and its copy goes to another block. The plan is told from the first one and the numbers of the failed steps, oldest first.
+#![tactic(auto)]
+
 ghost use Rattle.std.specs.Prelude.{false, ◌≡◌, replicate};
 ghost use Rattle.bbt.specs.Told.{told_steps, nth_step};
 ghost use Rattle.retire.specs.Retiring.{copy_at, moved_shape, also_retired, copy_retired, step_retired, steps_retired, all_retired};
@@ -9,7 +11,7 @@ use chip::{ChipBlock, LargeChip, Refusal, RegionBlock};
 use region::TargetAnswer;
 
 // A copy of a plan: its block, and the other copy's, where that stands or will be written.
-#[derive(Drop)]
+#[derive(Clone, Copy)]
 struct Copy {
     block: RegionBlock,
     other: RegionBlock,

@@ -1,4 +1,6 @@
 // The spare of a page of the small chip: its status and its tag, reading a spare, writing a spare.
+#![tactic(auto)]
+
 ghost use Rattle.std.specs.Prelude.{cond, ◌≡◌, ◌+◌, ◌≤◌, length};
 ghost use Rattle.spare.specs.Reading.{path_word, count_word, is_erased, not_ours, fields_by, by_tag, spare_answer, spare_repairs};
 ghost use Rattle.spare.specs.Status.{status_of};
@@ -9,7 +11,7 @@ use chip::{BadKind, Refusal, SmallChip};
 use hamming::{Decoded, Repair};
 
 // What a status byte tells of its block.
-#[derive(Drop)]
+#[derive(Clone, Copy)]
 pub enum Status {
     Good,
     Bad(BadKind),
@@ -33,7 +35,7 @@ pub fn status_of(byte: u8) -> Status
 const TAGS: [u8; 7] = [0xFF, 0x67, 0x06, 0x79, 0x18, 0x1F, 0x01];
 
 // The tag that a byte stands for.
-#[derive(Drop)]
+#[derive(Clone, Copy)]
 pub enum NearestTag {
     Found(u8),
     Missing,
@@ -68,7 +70,7 @@ pub fn is_tag(tag: u64) -> bool
 }
 
 // Which of tag, path word and count word were repaired.
-#[derive(Drop)]
+#[derive(Clone, Copy)]
 pub struct Repaired {
     pub tag: bool,
     pub path: bool,
@@ -92,7 +94,7 @@ fn one_if(b: bool) -> u8
 }
 
 // What a spare tells: the status byte as stored; tag, path and count as repaired; and what was repaired.
-#[derive(Drop)]
+#[derive(Clone, Copy)]
 pub struct SpareFields {
     pub status: u8,
     pub tag: u8,
@@ -102,7 +104,7 @@ pub struct SpareFields {
 }
 
 // What reading a spare answers.
-#[derive(Drop)]
+#[derive(Clone, Copy)]
 pub enum SpareAnswer {
     Read(SpareFields),
     Refused(Refusal),
@@ -204,7 +206,7 @@ pub fn read_spare(spare: &[u8]) -> SpareAnswer
 }
 
 // What writing a spare answers.
-#[derive(Drop)]
+#[derive(Clone, Copy)]
 pub enum WriteAnswer {
     Written,
     Refused(Refusal),

@@ -1,4 +1,6 @@
 // Reading the table of a settled pair.
+#![tactic(auto)]
+
 ghost use Rattle.std.specs.Prelude.{◌≡◌, ◌*◌, ◌<◌, ◌≤◌, length};
 ghost use Rattle.chip.specs.Large.{bitmap_bytes, pages_of};
 ghost use Rattle.region.specs.Stored.{stored_parts};
@@ -26,7 +28,7 @@ fn copy_bitmap(chip: LargeChip, image: &[u8], b: RegionBlock, out: &mut [u8])
 }
 
 // What reading a pair tells: its version, the primary's block and the mirror's, or a refusal.
-#[derive(Drop)]
+#[derive(Clone, Copy)]
 pub enum TableAnswer {
     Read(u8, ChipBlock, ChipBlock),
     Refused(Refusal),

@@ -2,6 +2,8 @@
 // data/half-codes: a line is 256 bytes and the three of their code, in hexadecimal. data/spares: a line is 16 spare bytes, the answer's
 // number and detail, and the 11 bytes of fields, EE where they are left as they were. Writes a line for each file, for each page with an erased spare, for each number of blocks
 // and for each page that a view is asked for.
+#![tactic(auto)]
+
 ghost use Rattle.std.specs.Prelude.{◌≡◌, ◌*◌, ◌<◌, length};
 
 use chip::{ChipAnswer, LargeChip, RegionBlock};
@@ -31,7 +33,7 @@ fn spelled(text: &[u8], bytes: &mut [u8])
 }
 
 // What a line showed.
-#[derive(Drop)]
+#[derive(Clone, Copy)]
 enum Line {
     Equal,
     Differs,
@@ -88,7 +90,7 @@ fn wide(x: u8) -> u64 {
 }
 
 // The kinds of file.
-#[derive(Drop)]
+#[derive(Clone, Copy)]
 enum Kind {
     HalfCodes,
     Spares,
@@ -102,7 +104,7 @@ fn next_line(fd: i32, kind: Kind) -> Line {
 }
 
 // How many lines were compared, and how many of them were equal.
-#[derive(Drop)]
+#[derive(Clone, Copy)]
 struct Tally {
     compared: u32,
     equal: u32,

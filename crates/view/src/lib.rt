@@ -1,6 +1,8 @@
 // A view of a lent region image: a struct that holds the image itself, and thin functions over it, proved by hand. Asked for a
 // page, it leaves the work to functions of `oob` with plain parameters, and hands back one struct. `answer_of` and `oob_of`
 // make a view for one question: their callers have none in hand, and so no proof by hand.
+#![tactic(auto)]
+
 ghost use Rattle.std.specs.Prelude.{◌≡◌, length};
 ghost use Rattle.oob.specs.Oob.{OobOf, extent_of, oob_answer};
 
@@ -9,14 +11,14 @@ use oob::{Extent, OobAnswer};
 
 // The lent image itself, and how far it reaches: P, and the number of region blocks. Both are 0 where N or
 // the region's size is refused.
-#[derive(Drop)]
+#[derive(Clone, Copy)]
 pub struct View<'a> {
     image: &'a [u8],
     extent: Extent,
 }
 
 // What a view hands back of a page: the answer, and the 64 OOB bytes as a part of the lent image; an empty part beside a refusal.
-#[derive(Drop)]
+#[derive(Clone, Copy)]
 pub struct Oob<'a> {
     pub answer: OobAnswer,
     pub part: &'a [u8],
