@@ -27,8 +27,6 @@ LEMMAS = {
     it: it + "_lem"
     for it in "count_by step_by read_told first_entry step_block by_blocks by_place part_length all_near".split()
 }
-# The heads behind which Rattle's own names stand, in a function's proof.
-HEADS = {"tie", "goal", "c", "w", "l", "g"}
 CLAUSE = re.compile(r"\b(?:requires|ensures)\*?\s*(?:\w+\s*)?\{|\bghost\s+use\b")
 
 
@@ -92,9 +90,9 @@ def table(top):
         if of_a_function(path):
             names -= answers(text)
         ours |= names
-        block = re.compile(rf"(?m)^(?:pub )?record [^\n]*where\n((?:(?:[ \t]+[^\n]*)?\n)*)")
-        for m in block.finditer(text):
-            fields |= declared(path, m[1])
+        # The fields of records: what is declared deeper than the line `record .. where`.
+        for m in re.finditer(r"(?m)^( *)(?:pub )?record [^\n]*where\n((?:(?:\1 +[^\n]*)?\n)*)", text):
+            fields |= declared(path, m[2])
     turned = {name: snake(name) for name in ours}
     turned = {a: b for a, b in turned.items() if a != b}
     turned.update({a: b for a, b in LEMMAS.items() if a in ours})
@@ -129,14 +127,11 @@ class Turner:
             behind_dot = m.start() > 0 and text[m.start() - 1] == "."
             if behind_dot:
                 head = re.search(r"[^\s(){};,@\"]+$", text[: m.start() - 1])
-                first = head[0].split(".")[0] if head else ""
                 path = head[0] if head else ""
                 is_module = path.startswith(("Rattle.", "specs.", "proofs."))
                 if not is_module and name not in self.fields:
                     continue
                 if is_module and re.search(r"\.proofs$", path):
-                    continue
-                if not is_module and first in HEADS and "-" in name and name not in self.fields:
                     continue
             out.append(text[at : m.start()])
             out.append(new)

@@ -118,7 +118,7 @@ module _ {chip : LargeChip} (ok : Judged chip) (call : Call) where
       → Carried call a q i es r u z → answer call a ≡ plan q → Tracked call a i es → Work r call a es d k j b g x c → Stood u d k j g x c z
   carry_copy all_done m t w = absurd (has_step w.placing refl)
   carry_copy {d} {k} {j} {b} {g} {x} {c} {a} {q} {z} {i} {u = u} (one_done {e = e} {es = es} s sp dn on) m t w =
-      go (λ v. carry_copy on m (track_next t) v) (work_done ok s w sp t (did s (asked call a i) e (track_numbered ok t).by-image dn))
+      go (λ v. carry_copy on m (track_next t) v) (work_done ok s w sp t (did s (asked call a i) e (track_numbered ok t).by_image dn))
     where
       go : (Work s call a es d k j b g x c → Stood u d k j g x c z) → Worked s call a es d k j b g x c → Stood u d k j g x c z
       go rec (still v l) = rec v
@@ -137,7 +137,7 @@ module _ {chip : LargeChip} (ok : Judged chip) (call : Call) where
             held = o;
           }
   carry_copy {a = a} {i = i} {r = r} (one_failed {e = e} s q' sp ct an on) m t w =
-      let v = work_failed ok s w sp t (broke r s (asked call a i) e (track_numbered ok t).by-image ct) q' an in
+      let v = work_failed ok s w sp t (broke r s (asked call a i) e (track_numbered ok t).by_image ct) q' an in
       carry_copy on an (track_first call (with_failed a i) q' an) v.1
 
   -- ---- the last copy: both hold its table

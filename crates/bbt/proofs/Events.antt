@@ -130,14 +130,14 @@ module _ {chip : LargeChip} where
   whole_kept {p = p} n f l ne h q hq = complete_kept (f p q l hq ne) (h q hq)
 
   back : {r s : Region chip} → Frame r s chip.region → Frame s r chip.region
-  back f d p hd hp n = let e = f d p hd hp n in record { same_status = sym e.same-status; same_bytes = sym e.same_bytes }
+  back f d p hd hp n = let e = f d p hd hp n in record { same_status = sym e.same_status; same_bytes = sym e.same_bytes }
 
   new_kept : (r s : Region chip) (n : Table) → Frame r s chip.region → NewPrimary r n → NewPrimary s n
   new_kept r s n f h =
       record {
         block = h.block;
-        in_region = h.in-region;
-        whole = whole_kept n f h.in-region (λ e. omega (arith, h.in-region)) h.whole;
+        in_region = h.in_region;
+        whole = whole_kept n f h.in_region (λ e. omega (arith, h.in_region)) h.whole;
       }
 
   whole_new : {r : Region chip} {p : ℕ} (n : Table) → p < chip.region → Whole r Primary p n → NewPrimary r n
@@ -149,7 +149,7 @@ module _ {chip : LargeChip} (ok : Judged chip) where
   missing_not : {r : Region chip} (n : Table) → length n.bitmap ≡ bitmap_bytes chip → Missing r Primary → ¬ NewPrimary r n
   missing_not {r} n len h w =
       true≢false (sym (whole_copy ok n primary_kind len w.whole).0
-      ∙ nowhere_find chip.region (good (pages_of chip) (view r) Primary) h.not_found w.block w.in-region)
+      ∙ nowhere_find chip.region (good (pages_of chip) (view r) Primary) h.not_found w.block w.in_region)
 
   news_differ : {o n : Table} → News chip o n → o ≢ n
   news_differ {o} {n} w e = next_differs o.version w.old_byte (sym w.newer ∙ ap (λ (t : Table). t.version) (sym e))
@@ -163,7 +163,7 @@ module _ {chip : LargeChip} (ok : Judged chip) where
       at : Dec (q.block ≡ p) → (good (pages_of chip) (view r) Primary q.block ≡ true) × (table (pages_of chip) (view r) q.block ≡ n)
           → Unique chip.region (good (pages_of chip) (view r) Primary) p → o ≡ n
       at (yes e) g u = sym h.content ∙ (ap (table (pages_of chip) (view r)) (sym e) ∙ g.1)
-      at (no d) g u = absurd (true≢false (sym g.0 ∙ u.no_other q.block q.in-region d))
+      at (no d) g u = absurd (true≢false (sym g.0 ∙ u.no_other q.block q.in_region d))
 
   -- ---- once the plan is out of hand
   record Rest (s : Region chip) (l : Last) (f : Table) : Type 0 where
@@ -418,18 +418,18 @@ module _ {chip : LargeChip} (ok : Judged chip) where
       }
   event {l = l} t m (step_done {c} {a} {i} {e} {es} s l' sp d en) =
       let x = track_numbered ok t in
-      let z = done_mode s es l l' t m sp (did s (asked c a i) e x.by-image d) en in
+      let z = done_mode s es l l' t m sp (did s (asked c a i) e x.by_image d) en in
       record { c = z.c; not_good_kept = z.not_good_kept; still = inv z.mode }
   event {r} t m (step_cut {c} {a} {i} {e} {es} s l' sp d cl) =
       let x = track_numbered ok t in
-      let z = cut_mode s m sp (broke r s (asked c a i) e x.by-image d) cl in
+      let z = cut_mode s m sp (broke r s (asked c a i) e x.by_image d) cl in
       record { c = z.c; not_good_kept = z.not_good_kept; still = inv (resting no_hand z.is z.sound) }
   event {r} {f = f} t m (step_failed {c} {a} {i} {e} {es} s q sp d an) =
       let x = track_numbered ok t in
-      record { c = f; not_good_kept = kept_same chip f; still = inv (fail_mode s q t m sp (broke r s (asked c a i) e x.by-image d) an) }
+      record { c = f; not_good_kept = kept_same chip f; still = inv (fail_mode s q t m sp (broke r s (asked c a i) e x.by_image d) an) }
   event {r} t m (step_given_up {c} {a} {i} {e} {es} s l' y sp d an cl) =
       let x = track_numbered ok t in
-      let z = cut_mode s m sp (broke r s (asked c a i) e x.by-image d) cl in
+      let z = cut_mode s m sp (broke r s (asked c a i) e x.by_image d) cl in
       record { c = z.c; not_good_kept = z.not_good_kept; still = inv (resting no_hand z.is z.sound) }
   event t m (cut_between l' cl) = let z = close m cl in record { c = z.c; not_good_kept = z.not_good_kept; still = inv (resting no_hand z.is z.sound) }
 

@@ -118,7 +118,7 @@ module _ {chip : LargeChip} (ok : Judged chip) where
     sole_new {k} hb h e w = record { found = find_only chip.region (good (pages_of chip) (view s) k) b hb e (clear_frame h); content = w }
 
     pub room_kept : {g : ℕ} (w : Room r g) → w.spot ≢ b → Room s g
-    room_kept w n = record { spot = w.spot; spot_in = w.spot_in; spot_off = w.spot-off; spot_fit = frame_bad w.spot w.spot_in n ∙ w.spot-fit }
+    room_kept w n = record { spot = w.spot; spot_in = w.spot_in; spot_off = w.spot_off; spot_fit = frame_bad w.spot w.spot_in n ∙ w.spot_fit }
 
   pub missing_clear : {r : Region chip} {k : Kind} → Missing r k → (b : ℕ) → Clear r k b
   missing_clear {r} {k} h b = record { elsewhere = λ d l n. nowhere_find chip.region (good (pages_of chip) (view r) k) h.not_found d l }

@@ -133,7 +133,7 @@ module _ {chip : LargeChip} where
   pub kept_seen : (r s : Region chip) (b p : ℕ) → Kept r s b p → view s b p ≡ view r b p
   unfolding seen
   kept_seen r s b p h =
-      let x = h.same-status in
+      let x = h.same_status in
       let y = h.same_bytes in
       cc
 
@@ -161,21 +161,21 @@ module _ {chip : LargeChip} where
   unfolding seen page_of bad_mark kind_of kind_of_word same_kind
   blank_seen r b p h =
       let e : bad_page p 0 (replicate 2112 255) ≡ false = fit_page p 0 (replicate 2112 255) refl (λ _. (0, lit< tt, λ z. omega arith)) in
-      (take (part_length chip p) (replicate 2112 255), rw (h.well, h.all-ff, e))
+      (take (part_length chip p) (replicate 2112 255), rw (h.well, h.all_ff, e))
 
   pub stands_seen : (r : Region chip) (b p : ℕ) (k j : Kind) (t : Table) → Twin k j → length t.bitmap ≡ bitmap_bytes chip
       → Stands r b p k t → view r b p ≡ reads k t.version (chunk p t.bitmap)
   unfolding seen page_of kind_of
   stands_seen r b p k j t o len h =
       let l : List ℕ = bytes_at r b p in
-      let as_asked : drop 2062 l ≡ drop 2062 (page_image k t p) = h.oob-as-asked in
+      let as_asked : drop 2062 l ≡ drop 2062 (page_image k t p) = h.oob_as_asked in
       let tail : drop 2062 l ≡ image_tail k t.version = as_asked ∙ image-tail k t p in
       let at : (i : ℕ) → get_or l (2062 + i) 0 ≡ get_or (image_tail k t.version) i 0 =
       λ i. sym (get_or-drop 2062 l i 0) ∙ ap (λ (m : List ℕ). get_or m i 0) tail in
       let e : kind_of l ≡ k = rw (at 0, at 1, at 2, at 3) (tail_kind t.version o) in
       let v : version_of l ≡ t.version = at 4 ∙ tail_version t.version o in
       let d : take (part_length chip p) l ≡ chunk p t.bitmap =
-      sym (take-take (part_length chip p) 2048 l (omega arith)) ∙ rw (h.data-as-asked, image-data k t p) (image_part chip t p len) in
+      sym (take-take (part_length chip p) 2048 l (omega arith)) ∙ rw (h.data_as_asked, image-data k t p) (image_part chip t p len) in
       let u : get_or l 2062 0 ≢ 0 = λ z. tail_first t.version o (sym (at 0) ∙ z) in
       let f : bad_page p 0 l ≡ false = signed_fit p 0 l o e u in
       rw (h.well, f, e, v, d)

@@ -64,15 +64,15 @@ module _ {chip : LargeChip} where
   kept_refl r b p = record { same_status = refl; same_bytes = refl }
 
   pub kept_trans : {r s u : Region chip} {b p : ℕ} → Kept r s b p → Kept s u b p → Kept r u b p
-  kept_trans x y = record { same_status = y.same-status ∙ x.same-status; same_bytes = y.same_bytes ∙ x.same_bytes }
+  kept_trans x y = record { same_status = y.same_status ∙ x.same_status; same_bytes = y.same_bytes ∙ x.same_bytes }
 
   pub complete_kept : {r s : Region chip} {b p : ℕ} {page : List ℕ} → Kept r s b p → Complete r b p page → Complete s b p page
   complete_kept e h =
       record {
-        well = e.same-status ∙ h.well;
-        data_as_asked = rw e.same_bytes h.data-as-asked;
-        oob_as_asked = rw e.same_bytes h.oob-as-asked;
+        well = e.same_status ∙ h.well;
+        data_as_asked = rw e.same_bytes h.data_as_asked;
+        oob_as_asked = rw e.same_bytes h.oob_as_asked;
       }
 
   pub blank_kept : {r s : Region chip} {b p : ℕ} → Kept r s b p → Blank r b p → Blank s b p
-  blank_kept e h = record { well = e.same-status ∙ h.well; all_ff = e.same_bytes ∙ h.all-ff }
+  blank_kept e h = record { well = e.same_status ∙ h.well; all_ff = e.same_bytes ∙ h.all_ff }

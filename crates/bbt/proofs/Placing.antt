@@ -151,7 +151,7 @@ module _ {chip : LargeChip} (ok : Judged chip) where
         go (no n) = stands_fit x l.kinds l.full (l.written 0 (omega arith))
 
     pub fill_lacks : Lacks r k j g c
-    fill_lacks = record { twin = l.twin; lacking = l.lacking; room = blank_room l.in-region l.off-twin fill_fit }
+    fill_lacks = record { twin = l.twin; lacking = l.lacking; room = blank_room l.in_region l.off_twin fill_fit }
 
   module _ (r s : Region chip) (k j : Kind) (b g : ℕ) (x c : Table) (q : ℕ) (l : Fill r k j b g x c q) (hq : q < pages_of chip)
       (f : OthersKept (write b q k x) r s) where
@@ -159,7 +159,7 @@ module _ {chip : LargeChip} (ok : Judged chip) where
     write_frame d p hd hp ne = f d p hd hp (λ t. ne t.0)
 
     kept : (i : ℕ) → i < pages_of chip → i ≢ q → Kept r s b i
-    kept i hi ne = f b i l.in-region hi (λ t. ne t.1)
+    kept i hi ne = f b i l.in_region hi (λ t. ne t.1)
 
     still : (i : ℕ) → i < q → Stands s b i k x
     still i h = complete_kept (kept i (omega arith) (omega arith)) (l.written i h)
@@ -182,7 +182,7 @@ module _ {chip : LargeChip} (ok : Judged chip) where
 
     twin_kept : Broke (write b q k x) r s → Sole s j g c
     twin_kept d =
-        sole_kept ok r s b write_frame l.twin l.off-twin (λ _. not_good (pages_of chip) ok.some_page (view s) b j k (twin_sym l.kinds) 0 ok.some_page (go (first d)))
+        sole_kept ok r s b write_frame l.twin l.off_twin (λ _. not_good (pages_of chip) ok.some_page (view s) b j k (twin_sym l.kinds) 0 ok.some_page (go (first d)))
       where
         go : Blank s b 0 ⊎ (Stands s b 0 k x ⊎ Lost s b 0) → Foreign j (view s b 0)
         go (inl h) = blank_foreign j h
@@ -194,7 +194,7 @@ module _ {chip : LargeChip} (ok : Judged chip) where
         record {
           twin = twin_kept d;
           lacking = missing_kept ok r s b write_frame (missing_clear ok l.lacking b) (λ _. not_good (pages_of chip) ok.some_page (view s) b k j l.kinds p hp h);
-          room = blank_room l.in-region l.off-twin (write_fit d);
+          room = blank_room l.in_region l.off_twin (write_fit d);
         }
 
     fill_more : suc q < pages_of chip → Stands s b q k x → Fill s k j b g x c (suc q)
@@ -205,8 +205,8 @@ module _ {chip : LargeChip} (ok : Judged chip) where
           kinds = l.kinds;
           twin = w.twin;
           lacking = w.lacking;
-          in_region = l.in-region;
-          off_twin = l.off-twin;
+          in_region = l.in_region;
+          off_twin = l.off_twin;
           full = l.full;
           written = λ i hi. at i (below_suc hi);
           blank = λ i lo hi. blank_kept (kept i hi (omega arith)) (l.blank i (omega arith) hi);
@@ -226,7 +226,7 @@ module _ {chip : LargeChip} (ok : Judged chip) where
     fill_end : suc q ≡ pages_of chip → Stands s b q k x → Sole s k b x
     fill_end m h =
         let w = whole_copy ok x l.kinds l.full (fill_all m h) in
-        sole_new ok r s b write_frame l.in-region (missing_clear ok l.lacking b) w.0 w.1
+        sole_new ok r s b write_frame l.in_region (missing_clear ok l.lacking b) w.0 w.1
 
     write_done : {rest es : List Step} (n : ℕ) → suc n + q ≡ pages_of chip → es ≡ writes n (suc q) b k x rest → Stands s b q k x
         → Went s k j b g x c rest es
@@ -287,10 +287,10 @@ module _ {chip : LargeChip} (ok : Judged chip) where
     pub place_frame : {e : Step} {es : List Step} → Placing r k j b g x c rest (e ∷ es) → OthersKept e r s
         → (z : ℕ) × Frame r s z × (g ≢ z) × ((z ≡ b) ⊎ (e ≡ zeros z))
     place_frame (place_start w t cl ft hb ne) sp = (b, erase_frame sp, ne, inl refl)
-    place_frame (place_fill n q e w l) sp = (b, write_frame r s k j b g x c q l (omega arith) sp, l.off-twin, inl refl)
+    place_frame (place_fill n q e w l) sp = (b, write_frame r s k j b g x c q l (omega arith) sp, l.off_twin, inl refl)
     place_frame (place_retire {z = z} w t cl hz nz nb ft hb ne) sp = (z, zeros_frame sp, nz, inr refl)
 
   pub place_twin : {r : Region chip} {k j : Kind} {b g : ℕ} {x c : Table} {rest es : List Step} → Placing r k j b g x c rest es → Sole r j g c × (b < chip.region) × (g ≢ b)
   place_twin (place_start w t cl ft hb ne) = (t, hb, ne)
-  place_twin (place_fill n q e w l) = (l.twin, l.in-region, l.off-twin)
+  place_twin (place_fill n q e w l) = (l.twin, l.in_region, l.off_twin)
   place_twin (place_retire w t cl hz nz nb ft hb ne) = (t, hb, ne)

@@ -254,7 +254,7 @@ module _ {chip : LargeChip} (ok : Judged chip) where
   target_there : (r : Region chip) (g : ℕ) → Room r g → (t : ℕ) × (target chip (view r) (g ∷ []) ≡ some t)
   unfolding target member
   target_there r g room =
-      let e : is_free (view r) (g ∷ []) room.spot ≡ true = rw (ne_eqb room.spot g room.spot-off, room.spot-fit) in
+      let e : is_free (view r) (g ∷ []) room.spot ≡ true = rw (ne_eqb room.spot g room.spot_off, room.spot_fit) in
       highest_some chip.region (is_free (view r) (g ∷ [])) room.spot room.spot_in e
 
   -- ---- a plan finds what its steps take, at any region

@@ -139,7 +139,7 @@ module _ {chip : LargeChip} where
   leave x as_it_was r b p hb hp h = record { s = r; is_left = kept_refl r b p; others = λ c q hc hq n. kept_refl r c q }
   leave x left_blank r b p hb hp h =
       let w = put_page r b p (replicate 2112 255) 0 hb hp (record { as_many = length-replicate {A = ℕ} 2112 255; below_256 = bytes_replicate 2112 }) (lit< tt) in
-      record { s = w.s; is_left = record { well = w.here-status; all_ff = w.here-bytes }; others = w.others }
+      record { s = w.s; is_left = record { well = w.here_status; all_ff = w.here_bytes }; others = w.others }
   leave x (left_complete oob) r b p hb hp (free, l, page, e) =
       let w = put_page r b p (take 2048 l ++ (oob ++ drop 2062 l)) 0 hb hp (filled_bytes l oob page free) (lit< tt) in
       record {
@@ -149,26 +149,26 @@ module _ {chip : LargeChip} where
             page = l;
             given = e;
             complete = record {
-              well = w.here-status;
-              data_as_asked = ap (take 2048) w.here-bytes ∙ filled_data l oob page free;
-              oob_as_asked = ap (drop 2062) w.here-bytes ∙ filled_tail l oob page free;
+              well = w.here_status;
+              data_as_asked = ap (take 2048) w.here_bytes ∙ filled_data l oob page free;
+              oob_as_asked = ap (drop 2062) w.here_bytes ∙ filled_tail l oob page free;
             };
           },
-          ap (λ (m : List ℕ). take 14 (drop 2048 m)) w.here-bytes ∙ filled_free l oob page free,
+          ap (λ (m : List ℕ). take 14 (drop 2048 m)) w.here_bytes ∙ filled_free l oob page free,
         );
         others = w.others;
       }
   leave x (left_unreadable l) r b p hb hp h =
       let w = put_page r b p l 1 hb hp h (lit< tt) in
-      record { s = w.s; is_left = (record { fails = w.here-status }, w.here-bytes); others = w.others }
+      record { s = w.s; is_left = (record { fails = w.here_status }, w.here_bytes); others = w.others }
   leave x (left_zeroed v d) r b p hb hp (hv, free) =
       let w = put_page r b p (d ++ replicate 64 0) v hb hp (zeroed_bytes d free) hv in
       record {
         s = w.s;
         is_left = (
-          record { zero-oob = λ j l. ap (λ (m : List ℕ). get_or m (2048 + j) 0) w.here-bytes ∙ zeroed_oob d free j },
-          w.here-status,
-          ap (take 2048) w.here-bytes ∙ zeroed_data d free,
+          record { zero-oob = λ j l. ap (λ (m : List ℕ). get_or m (2048 + j) 0) w.here_bytes ∙ zeroed_oob d free j },
+          w.here_status,
+          ap (take 2048) w.here_bytes ∙ zeroed_data d free,
         );
         others = w.others;
       }
@@ -179,10 +179,10 @@ module _ {chip : LargeChip} where
   left_kept x left_blank r k h = blank_kept k h
   left_kept x (left_complete oob) r k (w, e) =
       (record { page = w.page; given = w.given; complete = complete_kept k w.complete }, ap (λ (m : List ℕ). take 14 (drop 2048 m)) k.same_bytes ∙ e)
-  left_kept x (left_unreadable l) r k (w, e) = (record { fails = k.same-status ∙ w.fails }, k.same_bytes ∙ e)
+  left_kept x (left_unreadable l) r k (w, e) = (record { fails = k.same_status ∙ w.fails }, k.same_bytes ∙ e)
   left_kept x (left_zeroed v d) r k (w, e, f) = (
     record { zero-oob = λ j l. ap (λ (m : List ℕ). get_or m (2048 + j) 0) k.same_bytes ∙ w.zero-oob j l },
-    k.same-status ∙ e,
+    k.same_status ∙ e,
     ap (take 2048) k.same_bytes ∙ f,
   )
 
@@ -209,8 +209,8 @@ module _ {chip : LargeChip} where
       record {
         s = w.s;
         is_left = λ p l. elim (below_suc l) [
-          | inl e ↦ rw e (left_since x (left n) w.s (a.rest n (omega arith) (omega arith)) w.is-left)
-          | inr m ↦ left_kept x (left p) r (w.others b p hb (omega arith) (λ t. omega (arith, t.1))) (a.is-left p m)
+          | inl e ↦ rw e (left_since x (left n) w.s (a.rest n (omega arith) (omega arith)) w.is_left)
+          | inr m ↦ left_kept x (left p) r (w.others b p hb (omega arith) (λ t. omega (arith, t.1))) (a.is_left p m)
         ];
         rest = λ p l h. kept_trans (a.rest p (omega arith) h) (w.others b p hb h (λ t. omega (arith, t.1)));
         others = λ c q hc hq ne. kept_trans (a.others c q hc hq ne) (w.others c q hc hq (λ t. ne t.0));
@@ -224,8 +224,8 @@ module _ {chip : LargeChip} where
       go : Dec (status_at r b p ≡ 0) → Dec (take 2048 (bytes_at r b p) ≡ take 2048 l) → Dec (drop 2062 (bytes_at r b p) ≡ drop 2062 l)
           → Complete r b p l ⊎ (¬ Complete r b p l)
       go (no n) y z = inr (λ h. n h.well)
-      go (yes x) (no n) z = inr (λ h. n h.data-as-asked)
-      go (yes x) (yes y) (no n) = inr (λ h. n h.oob-as-asked)
+      go (yes x) (no n) z = inr (λ h. n h.data_as_asked)
+      go (yes x) (yes y) (no n) = inr (λ h. n h.oob_as_asked)
       go (yes x) (yes y) (yes z) = inl (record { well = x; data_as_asked = y; oob_as_asked = z })
 
   -- in block b
@@ -245,7 +245,7 @@ module _ {chip : LargeChip} where
   can_close r (closed o n w) = (closed o n w, as_closed)
   can_close r (pending o n) =
       elim (all_or_some chip.region (λ b. ¬ PrimaryAt r n b) (PrimaryAt r n) (λ b l. dec_primary r n b)) [
-        | inl h ↦ (closed o n false, was_not (λ w. h w.block w.in-region w.whole))
+        | inl h ↦ (closed o n false, was_not (λ w. h w.block w.in_region w.whole))
         | inr h ↦ (closed o n true, was_complete (record { block = h.0; in_region = h.1; whole = h.2 }))
       ]
 
@@ -263,13 +263,13 @@ module _ {chip : LargeChip} where
   pub leave_step : (x : Imaged) (left : ℕ → Left) (e : Step) (r : Region chip) → Judged chip → Harmless r e → ((p : ℕ) → Takes x (left p)) → Stepped x left e r
   leave_step x left (erase b) r ok h can =
       let a = leave_pages x left can r b (omega (arith, h.0.1, ok.within)) (pages_of chip) (omega arith) in
-      record { s = a.s; is_left = a.is-left; others = a.others }
+      record { s = a.s; is_left = a.is_left; others = a.others }
   leave_step x left (write b p k t) r ok h can =
       let a = leave x (left p) r b p (omega (arith, h.0.1, ok.within)) h.1 (can p) in
-      record { s = a.s; is_left = a.is-left; others = a.others }
+      record { s = a.s; is_left = a.is_left; others = a.others }
   leave_step x left (zeros b) r ok h can =
       let a = leave x (left 0) r b 0 (omega (arith, h.1, ok.within)) ok.some_page (can 0) in
-      record { s = a.s; is_left = a.is-left; others = a.others }
+      record { s = a.s; is_left = a.is_left; others = a.others }
 
   -- and so left, they are what a step leaves, done, cut or failed
   pub left_done : (x : Imaged) (left : ℕ → Left) (e : Step) (r s : Region chip) → ((p : ℕ) → DoneAllows e (left p)) → AreLeft x left e r s → Done x e s
@@ -387,22 +387,22 @@ module _ {chip : LargeChip} where
     done = λ left allows.
         let w = leave_step (asked c a i) left e r ok h (λ p. done_takes (asked c a i) e (left p) im by (allows p)) in
         let z = after_step w.s es l in
-        (w.s, z.0, w.is-left, (step_done w.s z.0 w.others (left_done (asked c a i) left e r w.s allows w.is-left) z.1, refl));
+        (w.s, z.0, w.is_left, (step_done w.s z.0 w.others (left_done (asked c a i) left e r w.s allows w.is_left) z.1, refl));
     cut = λ left allows.
         let w = leave_step (asked c a i) left e r ok h (λ p. cut_takes (asked c a i) e p (left p) im by (allows p)) in
         let z = can_close w.s l in
-        (w.s, z.0, w.is-left, (step_cut w.s z.0 w.others (left_cut (asked c a i) left e r w.s allows w.is-left) z.1, refl));
+        (w.s, z.0, w.is_left, (step_cut w.s z.0 w.others (left_cut (asked c a i) left e r w.s allows w.is_left) z.1, refl));
     fail = λ left allows.
         let w = leave_step (asked c a i) left e r ok h (λ p. cut_takes (asked c a i) e p (left p) im by (allows p)) in
-        (w.s, w.is-left, can_fail r l c a i e es w.s w.others (left_cut (asked c a i) left e r w.s allows w.is-left));
+        (w.s, w.is_left, can_fail r l c a i e es w.s w.others (left_cut (asked c a i) left e r w.s allows w.is_left));
   }
 
 pub nothing_left_out : NothingLeftOut
 nothing_left_out n size chip e = record {
   steps = λ {w} {r} {l} {c} {a} {i} {e = e'} {es} s h.
       let t = tracked (started s) h in
-      let p = ((demand3 n size chip e).promise s h).next-step in
-      can_happen ok r l c a i e' es p.0 p.1.by-image (bytes_next ok e' t);
+      let p = ((demand3 n size chip e).promise s h).next_step in
+      can_happen ok r l c a i e' es p.0 p.1.by_image (bytes_next ok e' t);
   plans = can_plan ok;
   refusals = λ r h l call x a. ((plan_refused call x a, refl), λ w c. must_refuse r h l call x w a c);
   cuts = λ r h l l' cl. (cut_between l' cl, refl);

@@ -47,7 +47,7 @@ module _ {chip : LargeChip} (ok : Judged chip) where
 
   place_harmless : {r : Region chip} {k j : Kind} {b g : ℕ} {x c : Table} {rest es : List Step} {e : Step} → Placing r k j b g x c rest (e ∷ es) → Harmless r e
   place_harmless {b = b} (place_start w t cl ft hb ne) = (in_region b hb, ft)
-  place_harmless {b = b} (place_fill n q e w f) = (in_region b f.in-region, omega arith)
+  place_harmless {b = b} (place_fill n q e w f) = (in_region b f.in_region, omega arith)
   place_harmless (place_retire {z = z} w t cl hz nz nb ft hb ne) = in_region z hz
 
   work_next : {r : Region chip} {call : Call} {a : Snapshot chip} {i : ℕ} {e : Step} {es : List Step} {d : Turn} {k j : Kind} {b g : ℕ} {x c : Table} (l : Last)

@@ -65,7 +65,7 @@ module _ {chip : LargeChip} (ok : Judged chip) where
       let a = put_pages r k t b h hb n (omega arith) in
       let w = put_page a.s b n (page_image k t n) 0 hb (omega arith) (image_bytes k t n h) (lit< tt) in
       let here : Stands w.s b n k t =
-      record { well = w.here-status; data_as_asked = ap (take 2048) w.here-bytes; oob_as_asked = ap (drop 2062) w.here-bytes } in
+      record { well = w.here_status; data_as_asked = ap (take 2048) w.here_bytes; oob_as_asked = ap (drop 2062) w.here_bytes } in
       record {
         s = w.s;
         stands = λ p l. elim (below_suc l) [

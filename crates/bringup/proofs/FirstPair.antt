@@ -39,28 +39,28 @@ module _ {chip : LargeChip} (ok : Judged chip) where
   -- ---- an attempt
   module _ (r : Region chip) (b : ℕ) (t : Table) (h : Begins r b t) where
     hb : b < chip.region
-    hb = h.fit.in-region
+    hb = h.fit.in_region
 
     full : length t.bitmap ≡ bitmap_bytes chip
-    full = h.any-table.bitmap-bytes.as_many
+    full = h.any_table.bitmap-bytes.as_many
 
     step-image : {s : Region chip} {e : Step} {es : List Step} → Left s b t (e ∷ es) → Harmless s e × ImageOf e (page_for chip e)
     step-image (to_erase w n fit) = ((in_region ok b hb, fit), refl)
     step-image {s} {e} (to_write n q c w l) =
         let z = writes_next n q b Primary t w in
         let lo : q < pages_of chip = omega (arith, c, z.1) in
-        subst (λ (x : Step). Harmless s x × ImageOf x (page_for chip x)) (sym z.2) ((in_region ok b hb, lo), primary_page ok t h.any-table q lo)
+        subst (λ (x : Step). Harmless s x × ImageOf x (page_for chip x)) (sym z.2) ((in_region ok b hb, lo), primary_page ok t h.any_table q lo)
 
     left : {s : Region chip} {es : List Step} → Writing r b t s es → Left s b t es
     unfolding copy_steps
-    left begun = to_erase refl (seven_none ok r h.seven) h.fit.not-bad
+    left begun = to_erase refl (seven_none ok r h.seven) h.fit.not_bad
     left (one_done {s = s} {e = e} u w f d) = let x = left w in left_done ok hb full x f (did u (page_for chip e) e (step-image x).1 d)
 
     -- ---- what is found
     found : {s : Region chip} → Holds s b t → Found s b t
     unfolding pair_case case_of
     found {s} (holds_none n) =
-        none_yet (λ w. true≢false (sym (whole_copy ok t primary_kind full w).0 ∙ nowhere_find chip.region (good (pages_of chip) (view s) Primary) n.no-primary.not_found b hb))
+        none_yet (λ w. true≢false (sym (whole_copy ok t primary_kind full w).0 ∙ nowhere_find chip.region (good (pages_of chip) (view s) Primary) n.no_primary.not_found b hb))
         (none_tables ok n)
     found (holds_one w x y) = primary_alone w (record { case = rw (x.found, y.not_found); content = x.content })
 
@@ -73,7 +73,7 @@ module _ {chip : LargeChip} (ok : Judged chip) where
     step-bytes (to_erase w n fit) = tt
     step-bytes (to_write n q c w l) =
         let z = writes_next n q b Primary t w in
-        subst StepOfBytes (sym z.2) (record { version_below = h.any-table.version_byte; bitmap-bytes = h.any-table.bitmap-bytes.below_256 })
+        subst StepOfBytes (sym z.2) (record { version_below = h.any_table.version_byte; bitmap-bytes = h.any_table.bitmap-bytes.below_256 })
 
     module _ {s : Region chip} {e : Step} {es : List Step} (w : Writing r b t s (e ∷ es)) (f : ℕ → Outcome) where
       to_left : ((p : ℕ) → Takes (page_for chip e) (f p)) → Stepped (page_for chip e) f e s
@@ -83,13 +83,13 @@ module _ {chip : LargeChip} (ok : Judged chip) where
       can_be_done a =
           let x = left w in
           let z = to_left (λ p. done_takes (page_for chip e) e (f p) (step-image x).1 (step-bytes x) (a p)) in
-          (z.s, z.is-left, one_done z.s w z.others (as-done (page_for chip e) f e s z.s a z.is-left))
+          (z.s, z.is_left, one_done z.s w z.others (as-done (page_for chip e) f e s z.s a z.is_left))
 
       can_be_cut : ((p : ℕ) → CutAllows e p (f p)) → (u : Region chip) × AreLeft (page_for chip e) f e s u × Stops r b t u
       can_be_cut a =
           let x = left w in
           let z = to_left (λ p. cut_takes (page_for chip e) e p (f p) (step-image x).1 (step-bytes x) (a p)) in
-          (z.s, z.is-left, in_step z.s w z.others (as-cut (page_for chip e) f e s z.s a z.is-left))
+          (z.s, z.is_left, in_step z.s w z.others (as-cut (page_for chip e) f e s z.s a z.is_left))
 
     brings_up : BringsUp r b t
     brings_up = record {
@@ -106,9 +106,9 @@ module _ {chip : LargeChip} (ok : Judged chip) where
   begins_anywhere : (b : ℕ) (t : Table) → b < chip.region → AnyTable chip t → (r : Region chip) × Begins r b t
   begins_anywhere b t hb any =
       let w = put_page (none_read chip) b 0 (replicate 2112 255) 0 hb ok.some_page (record { as_many = length-replicate {A = ℕ} 2112 255; below_256 = bytes_replicate 2112 }) (lit< tt) in
-      let z : Blank w.s b 0 = record { well = w.here-status; all_ff = w.here-bytes } in
+      let z : Blank w.s b 0 = record { well = w.here_status; all_ff = w.here_bytes } in
       let n = blank_none ok b (none_missing ok primary_kind) (none_missing ok mirror_kind) (λ d p hd hp ne. w.others d p hd hp (λ e. ne e.0)) z in
-      (w.s, record { seven = (none_tables ok n).no-recovery; fit = record { in_region = hb; not_bad = blank_fit z }; any_table = any })
+      (w.s, record { seven = (none_tables ok n).no_recovery; fit = record { in_region = hb; not_bad = blank_fit z }; any_table = any })
 
 pub first_pair : FirstPair
 first_pair n size chip e = record {

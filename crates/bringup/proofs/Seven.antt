@@ -70,7 +70,7 @@ module _ {chip : LargeChip} (ok : Judged chip) where
 
   none_case : {s : Region chip} → None s → pair_case chip (view s) ≡ no_pair NoCopy
   unfolding pair_case case_of
-  none_case h = rw (h.no-primary.not_found, h.no-mirror.not_found)
+  none_case h = rw (h.no_primary.not_found, h.no_mirror.not_found)
 
   pub none_tables : {s : Region chip} → None s → NoTables s
   unfolding reading read_case recovery recover_case plan_by_rules

@@ -69,7 +69,7 @@ writes_end (suc m) q b k t h = absurd (no_confusion (cc))
 
 module _ {chip : LargeChip} (ok : Judged chip) where
   none_bare : {s : Region chip} (b : ℕ) → None s → Bare s b
-  none_bare b h = record { primaries = missing_clear ok h.no-primary b; mirrors = missing_clear ok h.no-mirror b }
+  none_bare b h = record { primaries = missing_clear ok h.no_primary b; mirrors = missing_clear ok h.no_mirror b }
 
   holds_bare : {s : Region chip} {b : ℕ} {t : Table} → Holds s b t → Bare s b
   holds_bare {b = b} (holds_none h) = none_bare b h
@@ -98,7 +98,7 @@ module _ {chip : LargeChip} (ok : Judged chip) where
   blank_none b p m f z = none_at f (none_bare b (record { no_primary = p; no_mirror = m })) 0 ok.some_page (λ k. blank_foreign k z)
 
   none_same : {r s : Region chip} → Frame r s chip.region → None r → None s
-  none_same {r} {s} f h = record { no_primary = missing_same ok r s f h.no-primary; no_mirror = missing_same ok r s f h.no-mirror }
+  none_same {r} {s} f h = record { no_primary = missing_same ok r s f h.no_primary; no_mirror = missing_same ok r s f h.no_mirror }
 
   holds_same : {r s : Region chip} {b : ℕ} {t : Table} → b < chip.region → Frame r s chip.region → Holds r b t → Holds s b t
   holds_same hb f (holds_none h) = holds_none (none_same f h)

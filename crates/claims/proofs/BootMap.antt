@@ -88,12 +88,12 @@ module _ (n : ℕ) (spares mapped erased : List ℕ) where
   told_map : n ≤ 1024 → (c : MapCounts) → map_answer n spares mapped erased ≡ Mapped c → Reliable (block_at spares) n c → Map n spares mapped erased
   told_map few c e r =
       let code = code_mapped c e in
-      let small : c.mapped + c.erased ≤ n = rw (r.mapped-count, r.erased-count) r.fits in
+      let small : c.mapped + c.erased ≤ n = rw (r.mapped_count, r.erased_count) r.fits in
       let mapped_told : mapped_in (answer n spares mapped erased) ≡ c.mapped = rw code (omega (arith, small)) in
       let erased_told : erased_in (answer n spares mapped erased) ≡ c.erased = rw code (omega (arith, small)) in
       record {
-        in_mapped = rw e (list_holds ToMap n _ spares mapped (mapped_told ∙ r.mapped-count) (λ i h. omega (arith, (r.mapped i (rw (← r.every-number) h)).1.below)));
-        in_erased = rw e (list_holds ToErase n _ spares erased (erased_told ∙ r.erased-count) (λ i h. omega (arith, (r.erased i h).1.newer.below)));
+        in_mapped = rw e (list_holds ToMap n _ spares mapped (mapped_told ∙ r.mapped_count) (λ i h. omega (arith, (r.mapped i (rw (← r.every_number) h)).1.below)));
+        in_erased = rw e (list_holds ToErase n _ spares erased (erased_told ∙ r.erased_count) (λ i h. omega (arith, (r.erased i h).1.newer.below)));
         reliable = rw (mapped_told, erased_told) r;
       }
 

@@ -128,14 +128,14 @@ module _ {chip : LargeChip} (ok : Judged chip) (few : chip.blocks ≤ 32768) (sa
       → History w (world r (holding call a i (e ∷ es)) l) → answer call a ≡ plan q
       → i < length (steps_of (pages_of chip) q) → Next call a (steps_put (told_steps (told_plan chip q)) room) i r e
   next_is {r = r} {i = i} {e = e} q room s h planned inside =
-      let n = (promised s h).next-step in
+      let n = (promised s h).next_step in
       let same : plan n.1.made ≡ plan q = sym n.1.by_plan ∙ planned in
       let made : n.1.made ≡ q = cc in
       let numbered : nth_step (told_steps (told_plan chip q)) i ≡ told_step chip e = subst (λ (x : Plan). nth_step (told_steps (told_plan chip x)) i ≡ told_step chip e) made n.1.by_number in
       record {
         harmless = n.0;
         told = step_seen (told_steps (told_plan chip q)) room i (omega (arith, as_many chip q)) chip e numbered (block_small r e n.0);
-        its_image = n.1.by-image;
+        its_image = n.1.by_image;
         if_it_fails = n.2;
       }
 
@@ -226,7 +226,7 @@ module _ {chip : LargeChip} (ok : Judged chip) (few : chip.blocks ≤ 32768) (sa
         record {
           hand = holding call a (suc i) es;
           so_far = next so_far
-              (step_done t l' (others x (rw (← told) rest)) (step_is_done t x (asked call a i) page nx.its-image its)
+              (step_done t l' (others x (rw (← told) rest)) (step_is_done t x (asked call a i) page nx.its_image its)
               (after_step (n - suc i) es (omega arith) left));
           follows = both {i = suc i} {es = es} q room e f c (omega arith);
         }
@@ -239,7 +239,7 @@ module _ {chip : LargeChip} (ok : Judged chip) (few : chip.blocks ≤ 32768) (sa
         let nx = next_is q room s so_far e (omega arith) in
         let told : driver_step steps i ≡ seen_step chip x = ap (λ (b : List ℕ). driver_step b i) f ∙ nx.told in
         let its : StepCut (image_after_by (asked call a i) page) (seen_step chip x) r t = rw (← told, ← page_filled ok a call i page long) d in
-        (x, es, refl, others x (rw (← told) rest), step_is_cut r t x (asked call a i) page nx.its-image its)
+        (x, es, refl, others x (rw (← told) rest), step_is_cut r t x (asked call a i) page nx.its_image its)
 
     cutting : (l' : Last) (h : Hand chip) → History w (world r h l) → Follows (doing call a steps n i) h → StepCut (page_told call a i page) (driver_step steps i) r t
         → Closes t l l' → Like w t nothing l'
@@ -339,13 +339,13 @@ module _ {chip : LargeChip} (ok : Judged chip) (few : chip.blocks ≤ 32768) (sa
   next_step {r = r} (doing call a steps n i) _ s so_far (both {es = x ∷ es} q room e f c m) = λ inside.
       let nx = next_is q room s so_far e (omega arith) in
       let told : driver_step steps i ≡ seen_step chip x = ap (λ (b : List ℕ). driver_step b i) f ∙ nx.told in (
-        rw told (harmless r a call i x nx.harmless nx.its-image),
-        λ rm lr. rw told (fails r call (with_failed a i) x nx.harmless nx.if-it-fails rm lr),
+        rw told (harmless r a call i x nx.harmless nx.its_image),
+        λ rm lr. rw told (fails r call (with_failed a i) x nx.harmless nx.if_it_fails rm lr),
       )
 
   promise : {w : World chip} → Reached w → (v : DriverWorld chip) → LikeAt w v → DriverPromise v
   promise s (at r h l) k =
-      let q = (promised s k.so_far).recovers.not-refused in
+      let q = (promised s k.so_far).recovers.not_refused in
       record {
         settles = settles h k.hand s k.so_far k.follows;
         next_step = next_step h k.hand s k.so_far k.follows;

@@ -72,7 +72,7 @@ first_pair_in_c n size chip e = record {
   pages = page ok;
   begins = begins ok;
   seven = λ r steps long a. ap refusal_in (code ok r steps long NoCopy a);
-  no_table = λ r room long h. read ok r room long NoCopy h.no-reading;
+  no_table = λ r room long h. read ok r room long NoCopy h.no_reading;
   one_copy = λ r k b t room long h. one ok r room long k b t h;
 }
   where

@@ -335,8 +335,8 @@ lacks-new r e h =
     let w = h.whole 0 (lit< tt) in
     let l : List ℕ = drop 2062 (page_image Primary new_table 0) in
     let z : not (eqb (status_at r b 0) 0 && same (drop 2062 (bytes_at r b 0)) l) ≡ true =
-    all_at 4 (λ b. not (eqb (status_at r b 0) 0 && same (drop 2062 (bytes_at r b 0)) (drop 2062 (page_image Primary new_table 0)))) e b h.in-region in
-    false≢true (rw (w.well, w.oob-as-asked, same_refl l) at z)
+    all_at 4 (λ b. not (eqb (status_at r b 0) 0 && same (drop 2062 (bytes_at r b 0)) (drop 2062 (page_image Primary new_table 0)))) e b h.in_region in
+    false≢true (rw (w.well, w.oob_as_asked, same_refl l) at z)
 
 cut_old_lacks : lacks_new cut_old ≡ true
 unfolding lacks_new all same page_bytes page_image part_image image_data image_tail chunk

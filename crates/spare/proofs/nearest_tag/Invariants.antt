@@ -1,0 +1,18 @@
+-- `nearest_tag` meets its contract: no tag before i is near the byte.
+-- Assumes nothing.
+use mathlib.Core.Path.{◌≡◌, refl}
+use Prim.Native.Nat.{◌<◌, ◌≤◌, ◌-◌}
+use native.Mathlib.Numerals.{add-one}
+use native.Mathlib.Omega.{arith}
+use borrow.Author.Tests.{le-leb, lt-leb}
+use borrow.Author.Rules.{rules}
+use lib.ListN.{drop, get_or}
+use Rattle.spare.specs.Tags.{tags, distance, nearest}
+use Rattle.spare.proofs.Tagging.{nearest_next}
+use Rattle.spare.proofs.nearest_tag.Given as goal
+
+abbrev pub invariant-loop-i : goal.invariant-loop-i
+invariant-loop-i l = (l.i ≤ 7) × (nearest tags l.byte ≡ nearest (drop l.i tags) l.byte)
+
+abbrev pub decreases-loop-i : goal.decreases-loop-i
+decreases-loop-i l = 7 - l.i
