@@ -136,9 +136,9 @@ module _ {chip : LargeChip} (ok : Judged chip) (call : Call) where
             copy = v;
             held = o;
           }
-  carry_copy {a = a} {i = i} {r = r} (one_failed {e = e} s q' sp ct an on) m t w =
+  carry_copy {b = b} {a = a} {i = i} {r = r} (one_failed {e = e} s q' sp ct an on) m t w =
       let v = work_failed ok s w sp t (broke r s (asked call a i) e (track_numbered ok t).by_image ct) q' an in
-      carry_copy on an (track_first call (with_failed a i) q' an) v.1
+      carry_copy {b = v.0} on an (track_first call (with_failed a i) q' an) v.1
 
   -- ---- the last copy: both hold its table
   record Both (u : Region chip) (x : Table) (z : Plan) : Type 0 where

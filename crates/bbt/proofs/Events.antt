@@ -290,6 +290,7 @@ module _ {chip : LargeChip} (ok : Judged chip) where
       record { c = f; not_good_kept = kept_same chip f; mode = recovering_done (kinds x.work.role) x.now (work_done ok s x.work sp t d) en }
   done_mode s es l l' t (renewing x) sp d en = renewing_done x.new (work_done ok s x.work sp t d) en
   done_mode s es l l' t (copying {o = o} x) sp d en = copying_done o (copy_stays s x sp) (work_done ok s x.work sp t d) en
+  done_mode s es l l' t (resting none _ _) sp d en = elim none [ ]
 
   -- ---- a step, cut or failed
   remains_sound : {r s : Region chip} {k j : Kind} {b g : ℕ} {c : Table} → Twin k j → Sound r c → Remains r s k j b g c c → Sound s c
@@ -317,6 +318,7 @@ module _ {chip : LargeChip} (ok : Judged chip) where
   cut_mode s {f = f} (copying x) sp d cl =
       new_rest (kept_same chip f) (remains_sound mirror_kind x.sound (work_cut ok s x.work sp d))
       (whole_new f (sole_in ok (work_twin ok x.work)) (copy_stays s x sp)) cl
+  cut_mode s (resting none _ _) sp d cl = elim none [ ]
 
   -- failed, and the plan was made anew
   fail_mode : {r : Region chip} (s : Region chip) {k : Call} {a : Snapshot chip} {i : ℕ} {e : Step} {es : List Step} {l : Last} {f : Table} (q : Plan)
@@ -339,6 +341,7 @@ module _ {chip : LargeChip} (ok : Judged chip) where
   fail_mode s q t (copying x) sp d p =
       let w = work_failed ok s x.work sp t d q p in
       copying (record { p = x.p; m = w.0; work = w.1; sound = remains_sound mirror_kind x.sound (work_cut ok s x.work sp d); stays = copy_stays s x sp })
+  fail_mode s q t (resting none _ _) sp d p = elim none [ ]
 
   -- ---- a plan, made
   planned_update : {r : Region chip} (v : List ℕ) (p m : ℕ) (o n : Table) (j : Job) → Sole r Primary p o → Sole r Mirror m o → Asked r (for_update v) (fresh j)

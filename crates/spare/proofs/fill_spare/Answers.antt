@@ -18,4 +18,4 @@ unfolding spare_of
 returns c =
     let l = c.args.bytes.now in
     c.copy.ensures ∙ copied_same _ _ (omega arith)
-    ∙ rw (c.bytes_of.ensures, c.encode.ensures, c.bytes-of2.ensures, c.encode2.ensures, c.code_of-first.ensures, c.code_of-second.ensures, take_all (length l - 256) (drop 256 l) (simp length-drop (omega arith))) refl
+    ∙ rw (c.bytes_of-p.ensures, c.encode.ensures, c.bytes_of-c.ensures, c.encode-2.ensures, c.code_of-first.ensures, c.code_of-second.ensures, take_all (length l - 256) (drop 256 l) (simp length-drop (omega arith))) refl

@@ -10,11 +10,11 @@ use Rattle.spare.proofs.write_spare.Goals as goal
 
 pub returns-then-bytes-ne-PAGE : goal.returns-then-bytes-ne-PAGE
 unfolding write_answer spare_after
-returns-then-bytes-ne-PAGE c = let e = ne_eqb _ _ c.if-bytes-ne-PAGE.true in (simp e, simp e)
+returns-then-bytes-ne-PAGE c = let e = ne_eqb _ _ c.if-bytes-ne-PAGE.true in record { answer = simp e; written = simp e }
 
 pub returns-then-spare-ne-SPARE : goal.returns-then-spare-ne-SPARE
 unfolding write_answer spare_after
-returns-then-spare-ne-SPARE c = let e = eq-eqb _ _ c.if-bytes-ne-PAGE.false in let f = ne_eqb _ _ c.if-spare-ne-SPARE.true in (simp (e, f), simp (e, f))
+returns-then-spare-ne-SPARE c = let e = eq-eqb _ _ c.if-bytes-ne-PAGE.false in let f = ne_eqb _ _ c.if-spare-ne-SPARE.true in record { answer = simp (e, f); written = simp (e, f) }
 
 pub overflow_cast-tag : goal.overflow_cast-tag
 overflow_cast-tag c = let fits = writable_fits _ _ _ (sym c.is_writable.ensures ∙ c.if-is_writable.true) in omega arith
@@ -34,7 +34,7 @@ returns-then-is_writable c =
     let e = eq-eqb _ _ c.if-bytes-ne-PAGE.false in
     let f = eq-eqb _ _ c.if-spare-ne-SPARE.false in
     let w = sym c.is_writable.ensures ∙ c.if-is_writable.true in
-    (simp (e, f, w), simp (e, f, w) c.fill_spare.ensures)
+    record { answer = simp (e, f, w); written = simp (e, f, w) c.fill_spare.ensures }
 
 pub returns : goal.returns
 unfolding write_answer spare_after
@@ -42,4 +42,4 @@ returns c =
     let e = eq-eqb _ _ c.if-bytes-ne-PAGE.false in
     let f = eq-eqb _ _ c.if-spare-ne-SPARE.false in
     let w = sym c.is_writable.ensures ∙ c.if-is_writable.false in
-    (simp (e, f, w), simp (e, f, w))
+    record { answer = simp (e, f, w); written = simp (e, f, w) }
