@@ -1,0 +1,16 @@
+-- `differs` meets its contract: after i turns what is gathered is 0 where the first i bytes are the same.
+-- Assumes nothing.
+use mathlib.Core.Path.{◌≡◌, refl}
+use Prim.Native.Nat.{◌≤◌, ◌-◌}
+use native.Mathlib.Omega.{arith}
+use lib.Dec.{eqb}
+use lib.ListN.{length, get_or, take}
+use Rattle.bits.proofs.Gathering.{gather_turn, gather_end}
+use Rattle.bbt.specs.Pairs.{same}
+use Rattle.bitmap.proofs.differs.Given as goal
+
+abbrev pub invariant-loop-i : goal.invariant-loop-i
+invariant-loop-i l = (l.i ≤ length l.a) × (eqb l.d 0 ≡ same (take l.i l.a) (take l.i l.b))
+
+abbrev pub decreases-loop-i : goal.decreases-loop-i
+decreases-loop-i l = length l.a - l.i
