@@ -24,8 +24,7 @@ use Rattle.region.specs.Cases.{lent_case}
 use Rattle.table.specs.Tables.{told_reading, table_answer, room_by, table_after}
 use Rattle.region.proofs.Judged.{Known, case_known, judged_case, judged_out, known_valid, known_image, known_copies, known_reading, settled_reading}
 use borrow.Author.Rules.{rules}
-use Rattle.table.proofs.read_table.Statement.{statement}
-use Rattle.table.proofs.read_table.Tie as tie
+use Rattle.table.proofs.read_table.Goals as goal
 
 module _ (n size : ℕ) (image status room : List ℕ) where
   -- what was lent is refused: N and the region's size first
@@ -65,117 +64,64 @@ module _ (n size : ℕ) (image status room : List ℕ) where
       let is : table_reading n size image status room ≡ x = reads_case chip c e ∙ h known in
       (rw known.the_chip (ap (told_reading chip) (sym is)), ap (λ (y : Reading). room_by y room) (sym is))
 
-case-of-requires : tie.Need-case-of-requires
-case-of-requires c κs = search rules
-
-enum-known-r : tie.Need-enum-known-r
-enum-known-r c = search rules
-
-enum-known-chip : tie.Need-enum-known-chip
-enum-known-chip c = search rules
-
-enum-known-c : tie.Need-enum-known-c
-enum-known-c c = search rules
-
-enum_told : tie.Need-enum-told
-enum_told c = search rules
-
-enum-known-c-2 : tie.Need-enum-known-c-2
-enum-known-c-2 c = search rules
-
-copy-bitmap-requires : tie.Need-copy-bitmap-requires
-copy-bitmap-requires c κs =
-    let a = c.before.before.before.before.before.before.before.before.before.before.before.args in
-    let chip : LargeChip = c.before.before.before.before.before.chip.given.0.0 in
-    let pair : PairCase = Settled c.before.before.c2.given.0.0 c.before.before.c2.given.0.1.0 in
+pub copy_bitmap-requires : goal.copy_bitmap-requires
+copy_bitmap-requires c =
+    let a = c.args in
+    let chip : LargeChip = c.in-Case.chip in
+    let pair : PairCase = Settled c.in-Settled.p c.in-Settled.m in
     let told : lent_case a.n a.size (Bitmap (length a.bitmap.now)) a.image.now a.status.now ≡ Case chip pair
-    = sym c.before.before.before.before.before.before.before.case-of.ensures ∙ c.before.before.before.before.before.chip.given.1 ∙ ap (Case chip) c.before.before.c2.given.1 in
+    = sym c.case_of.ensures ∙ c.in-Case.is ∙ ap (Case chip) c.in-Settled.is in
     let known = case_known a.n a.size (Bitmap (length a.bitmap.now)) a.image.now a.status.now chip pair told in
     let valid = known_valid known in
     (omega (arith, known_image known), valid.some_page, valid.few_pages, (known_copies known).0.inside, eqb-true _ _ known.beside_right)
 
-version-requires : tie.Need-version-requires
-version-requires c κs = search rules
+pub returns-in-Refused : goal.returns-in-Refused
+returns-in-Refused c =
+    let both =
+    let a = c.args in
+    told_out a.n a.size a.image.now a.status.now a.bitmap.now _ (sym c.case_of.ensures ∙ c.in-Refused.is)
+    in record { answer = both.0; out = both.1 }
 
-chip-block-requires : tie.Need-chip-block-requires
-chip-block-requires c κs = search rules
-
-chip-block-requires-2 : tie.Need-chip-block-requires-2
-chip-block-requires-2 c κs = search rules
-
-enum-told-2 : tie.Need-enum-told-2
-enum-told-2 c = search rules
-
-enum-told-3 : tie.Need-enum-told-3
-enum-told-3 c = search rules
-
-returns : tie.Need-returns
-returns c =
-    let a = c.before.before.before.before.before.before.before.args in
-    told_out a.n a.size a.image.now a.status.now a.bitmap.now _ (sym c.before.before.before.case-of.ensures ∙ c.before.r.given.1)
-
-returns-2 : tie.Need-returns-2
+pub returns-in-Refused-c : goal.returns-in-Refused-c
 unfolding read_case
-returns-2 c =
-    let a = c.before.before.before.before.before.before.before.before.before.before.args in
-    told-case a.n a.size a.image.now a.status.now a.bitmap.now _ _ _ (sym c.before.before.before.before.before.before.case-of.ensures ∙ c.before.before.before.before.chip.given.1) c.before.c.given.1 _ known_reading
+returns-in-Refused-c c =
+    let both =
+    let a = c.args in
+    told-case a.n a.size a.image.now a.status.now a.bitmap.now _ _ _ (sym c.case_of.ensures ∙ c.in-Case.is) c.in-Refused-c.is _ known_reading
+    in record { answer = both.0; out = both.1 }
 
-returns-3 : tie.Need-returns-3
+pub returns-in-Alone : goal.returns-in-Alone
 unfolding read_case
-returns-3 c =
-    let a = c.before.before.before.before.before.before.before.before.before.args in
-    told-case a.n a.size a.image.now a.status.now a.bitmap.now _ _ _ (sym c.before.before.before.before.before.case-of.ensures ∙ c.before.before.before.chip.given.1) c.enum_told.given.1 _ known_reading
+returns-in-Alone c =
+    let both =
+    let a = c.args in
+    told-case a.n a.size a.image.now a.status.now a.bitmap.now _ _ _ (sym c.case_of.ensures ∙ c.in-Case.is) c.in-Alone.is _ known_reading
+    in record { answer = both.0; out = both.1 }
 
-same_length : tie.Need-same-length
-same_length c = search rules
-
-returns-4 : tie.Need-returns-4
-returns-4 c =
-    let a = c.before.before.before.before.before.before.before.before.before.before.before.before.before.before.before.before.before.args in
-    let chip : LargeChip = c.before.before.before.before.before.before.before.before.before.before.before.chip.given.0.0 in
-    let p : RegionBlock = c.before.before.before.before.before.before.before.before.c2.given.0.0 in
+pub returns-in-Settled : goal.returns-in-Settled
+returns-in-Settled c =
+    let a = c.args in
+    let chip : LargeChip = c.in-Case.chip in
+    let p : RegionBlock = c.in-Settled.p in
     let t =
-    told-case a.n a.size a.image.now a.status.now a.bitmap.now chip _ _ (sym c.before.before.before.before.before.before.before.before.before.before.before.before.before.case-of.ensures ∙ c.before.before.before.before.before.before.before.before.before.before.before.chip.given.1)
-    c.before.before.before.before.before.before.before.before.c2.given.1 _ settled_reading
-    in (
-      ap (λ (v : ℕ). Read v c.before.chip-block.result c.chip-block2.result) c.before.before.version.ensures
-          ∙ ap₂ (Read (version_of (page_bytes a.image.now (p.0 * pages_of chip)))) c.before.chip-block.ensures c.chip-block2.ensures
-          ∙ t.0,
-      c.before.before.before.before.before.copy-bitmap.ensures ∙ t.1,
-    )
+    told-case a.n a.size a.image.now a.status.now a.bitmap.now chip _ _ (sym c.case_of.ensures ∙ c.in-Case.is)
+    c.in-Settled.is _ settled_reading
+    in record { answer = ap (λ (v : ℕ). Read v c.chip_block.result c.chip_block-in-Settled.result) c.version.ensures
+          ∙ ap₂ (Read (version_of (page_bytes a.image.now (p.0 * pages_of chip)))) c.chip_block.ensures c.chip_block-in-Settled.ensures
+          ∙ t.0; out = c.copy_bitmap.ensures ∙ t.1 }
 
-returns-5 : tie.Need-returns-5
+pub returns-in-Merging : goal.returns-in-Merging
 unfolding read_case
-returns-5 c =
-    let a = c.before.before.before.before.before.before.before.before.before.args in
-    told-case a.n a.size a.image.now a.status.now a.bitmap.now _ _ _ (sym c.before.before.before.before.before.case-of.ensures ∙ c.before.before.before.chip.given.1) c.enum-told2.given.1 _ known_reading
+returns-in-Merging c =
+    let both =
+    let a = c.args in
+    told-case a.n a.size a.image.now a.status.now a.bitmap.now _ _ _ (sym c.case_of.ensures ∙ c.in-Case.is) c.in-Merging.is _ known_reading
+    in record { answer = both.0; out = both.1 }
 
-returns-6 : tie.Need-returns-6
+pub returns-in-Differing : goal.returns-in-Differing
 unfolding read_case
-returns-6 c =
-    let a = c.before.before.before.before.before.before.before.before.before.args in
-    told-case a.n a.size a.image.now a.status.now a.bitmap.now _ _ _ (sym c.before.before.before.before.before.case-of.ensures ∙ c.before.before.before.chip.given.1) c.enum-told3.given.1 _ known_reading
-
-pub read_table_spec : {M : Type 1} → statement M
-read_table_spec =
-    tie.close
-    (tie.spec
-    case-of-requires
-    enum-known-r
-    enum-known-chip
-    enum-known-c
-    enum_told
-    enum-known-c-2
-    copy-bitmap-requires
-    version-requires
-    chip-block-requires
-    chip-block-requires-2
-    enum-told-2
-    enum-told-3
-    returns
-    returns-2
-    returns-3
-    same_length
-    returns-4
-    returns-5
-    returns-6)
+returns-in-Differing c =
+    let both =
+    let a = c.args in
+    told-case a.n a.size a.image.now a.status.now a.bitmap.now _ _ _ (sym c.case_of.ensures ∙ c.in-Case.is) c.in-Differing.is _ known_reading
+    in record { answer = both.0; out = both.1 }

@@ -1,0 +1,21 @@
+-- `copy_bitmap` meets its contract: the bytes before `from` are those of the pages before p.
+-- Assumes nothing.
+use mathlib.Core.List.{List}
+use mathlib.Core.Path.{◌≡◌, refl, sym, ap, ◌∙◌}
+use Prim.Native.Nat.{ℕ, ◌+◌, ◌*◌, ◌-◌, ◌<◌, ◌≤◌, min}
+use native.Mathlib.Omega.{arith}
+use borrow.Author.Rules.{rules}
+use borrow.Rule.Slice.PartMut.{put_mid, same_len_mid}
+use lib.ListN.{length, take}
+use lib.Seq.{take_all}
+use Rattle.bbt.specs.Pages.{part_length}
+use Rattle.region.specs.Stored.{stored_parts}
+use Rattle.chip.specs.Large.{bitmap_bytes, pages_of}
+use Rattle.table.proofs.Copying.{part_size, copy_next}
+use Rattle.table.proofs.copy_bitmap.Given as goal
+
+abbrev pub invariant-loop-p : goal.invariant-loop-p
+invariant-loop-p l = (l.p ≤ l.pages) × (l.from ≡ min (2048 * l.p) (bitmap_bytes l.chip)) × (length l.out ≡ bitmap_bytes l.chip) × (take l.from l.out ≡ stored_parts l.chip l.image l.b.0 l.p)
+
+abbrev pub decreases-loop-p : goal.decreases-loop-p
+decreases-loop-p l = l.pages - l.p
