@@ -12,8 +12,7 @@ use Rattle.bbt.specs.declared.Kind.TheVariants.{Primary, Mirror}
 use Rattle.chip.specs.declared.RegionBlock.{RegionBlock}
 use Rattle.plan.specs.Works.{newer_work}
 use Rattle.plan.specs.declared.Work.TheVariants.{Copy}
-use Rattle.plan.proofs.newer_work.Statement.{statement}
-use Rattle.plan.proofs.newer_work.Tie as tie
+use Rattle.plan.proofs.newer_work.Goals as goal
 
 below : (d : ℤ) (p m : RegionBlock) → lt_z d (pos 0) ≡ true → Copy m p Primary ≡ newer_work d p m
 below (pos n) p m h = absurd (omega (arith, ltb-true n 0 h))
@@ -23,17 +22,14 @@ above : (d : ℤ) (p m : RegionBlock) → lt_z d (pos 0) ≡ false → Copy p m 
 above (pos n) p m h = refl
 above (negsuc n) p m h = absurd (true≢false h)
 
-returns : tie.Need-returns
+pub returns-then-d-lt0 : goal.returns-then-d-lt0
+returns-then-d-lt0 c =
+    let a = c.args in
+    let fits = to_z-of_z {w = w32} {z = a.d} (record { sfits = c.well_formed.0 }) in
+    below a.d a.p a.m (ap (λ (z : ℤ). lt_z z (pos 0)) (sym fits) ∙ c.if-d-lt0.true)
+
+pub returns : goal.returns
 returns c =
-    let a = c.before.args in
-    let fits = to_z-of_z {w = w32} {z = a.d} (record { sfits = c.before.well-formed.0 }) in
-    below a.d a.p a.m (ap (λ (z : ℤ). lt_z z (pos 0)) (sym fits) ∙ c.if1.true)
-
-returns-2 : tie.Need-returns-2
-returns-2 c =
-    let a = c.before.args in
-    let fits = to_z-of_z {w = w32} {z = a.d} (record { sfits = c.before.well-formed.0 }) in
-    above a.d a.p a.m (ap (λ (z : ℤ). lt_z z (pos 0)) (sym fits) ∙ c.if1.false)
-
-pub newer_work_spec : {M : Type 1} → statement M
-newer_work_spec = tie.close (tie.spec returns returns-2)
+    let a = c.args in
+    let fits = to_z-of_z {w = w32} {z = a.d} (record { sfits = c.well_formed.0 }) in
+    above a.d a.p a.m (ap (λ (z : ℤ). lt_z z (pos 0)) (sym fits) ∙ c.if-d-lt0.false)
