@@ -120,9 +120,9 @@ module _ {chip : LargeChip} (ok : Judged chip) (few : chip.blocks ≤ 32768) (sa
         }
 
     -- what a cut or failed step leaves, as the driver has it
-    broken : {bytes : List ℕ} {n : ℕ} → Follows (doing call from bytes n i) (holding call from i (x ∷ es)) → Cut (asked call from i) x r t
+    broken : {told : Call} {snap : Snapshot chip} {bytes : List ℕ} {n k : ℕ} → Follows (doing told snap bytes n k) (holding call from i (x ∷ es)) → Cut (asked call from i) x r t
         → (i < n) × RestKept (driver_step bytes i) r t × StepCut (page_told call from i page) (driver_step bytes i) r t
-    broken {bytes} {n} (both q held e f c m) cut =
+    broken {bytes = bytes} {n = n} (both q held e f c m) cut =
         let nx = next_is ok few safe q held s past e (omega arith) in
         let told : driver_step bytes i ≡ seen_step chip x = ap (λ (b : List ℕ). driver_step b i) f ∙ nx.told in
         let asks = page_filled ok from call i page long_page in
