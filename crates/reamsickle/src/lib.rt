@@ -1,4 +1,5 @@
 // The C entries: thin functions on numbers and byte slices over the crates below. Each has its answer as one number (include/reamsickle.h).
+// The crate `reamsickle_c` exports them.
 #![tactic(auto)]
 
 ghost use Rattle.std.specs.Prelude.{◌≡◌, ◌≤◌, length};
@@ -37,8 +38,7 @@ const PAGE_FIELDS: usize = SmallChip::FIELDS;
 const STEPS: usize = 64;
 
 // The code of a half: 256 bytes in, three out.
-#[unsafe(no_mangle)]
-pub extern "C" fn ream_half_code(half: &[u8], code: &mut [u8]) -> u64
+pub fn ream_half_code(half: &[u8], code: &mut [u8]) -> u64
     ensures answer { result ≡ half_code half.now code.old }
     ensures out { code.new ≡ half_code_after half.now code.old }
 {
@@ -55,8 +55,7 @@ pub extern "C" fn ream_half_code(half: &[u8], code: &mut [u8]) -> u64
 }
 
 // Writes the spare of a page: 512 data bytes, tag, path and count in, sixteen bytes out.
-#[unsafe(no_mangle)]
-pub extern "C" fn ream_spare_write(
+pub fn ream_spare_write(
     bytes: &[u8],
     tag: u64,
     path: u64,
@@ -73,8 +72,7 @@ pub extern "C" fn ream_spare_write(
 }
 
 // Reads a spare: sixteen bytes in, eleven out.
-#[unsafe(no_mangle)]
-pub extern "C" fn ream_spare_read(spare: &[u8], fields: &mut [u8]) -> u64
+pub fn ream_spare_read(spare: &[u8], fields: &mut [u8]) -> u64
     ensures answer { result ≡ spare_code spare.now fields.old }
     ensures out { fields.new ≡ spare_fields_after spare.now fields.old }
 {
@@ -92,8 +90,7 @@ pub extern "C" fn ream_spare_read(spare: &[u8], fields: &mut [u8]) -> u64
 }
 
 // Reads a page: 512 data bytes, put right in place where the whole read succeeds, and sixteen spare bytes in; eleven out.
-#[unsafe(no_mangle)]
-pub extern "C" fn ream_page_read(bytes: &mut [u8], spare: &[u8], fields: &mut [u8]) -> u64
+pub fn ream_page_read(bytes: &mut [u8], spare: &[u8], fields: &mut [u8]) -> u64
     ensures answer { result ≡ page_code bytes.old spare.now fields.old }
     ensures page { bytes.new ≡ page_data_after bytes.old spare.now fields.old }
     ensures out { fields.new ≡ page_fields_after bytes.old spare.now fields.old }
@@ -112,8 +109,7 @@ pub extern "C" fn ream_page_read(bytes: &mut [u8], spare: &[u8], fields: &mut [u
 }
 
 // Maps the boot blocks among `number` blocks of the small chip: 32 spare bytes a block in, two lists of two bytes a block out.
-#[unsafe(no_mangle)]
-pub extern "C" fn ream_boot_map(
+pub fn ream_boot_map(
     number: u64,
     spares: &[u8],
     mapped: &mut [u8],
@@ -133,8 +129,7 @@ pub extern "C" fn ream_boot_map(
 }
 
 // The first bitmap of a chip of n blocks: 2n marks in, n/4 bytes out.
-#[unsafe(no_mangle)]
-pub extern "C" fn ream_first_bitmap(n: u64, size: u64, marks: &[u8], bitmap: &mut [u8]) -> u64
+pub fn ream_first_bitmap(n: u64, size: u64, marks: &[u8], bitmap: &mut [u8]) -> u64
     ensures answer { result ≡ first_code n size marks.now bitmap.old }
     ensures out { bitmap.new ≡ first_after n size marks.now bitmap.old }
 {
@@ -145,8 +140,7 @@ pub extern "C" fn ream_first_bitmap(n: u64, size: u64, marks: &[u8], bitmap: &mu
 }
 
 // Reads a settled pair: the region image and its status bytes in, the bitmap out.
-#[unsafe(no_mangle)]
-pub extern "C" fn ream_table_read(
+pub fn ream_table_read(
     n: u64,
     size: u64,
     image: &[u8],
@@ -200,8 +194,7 @@ fn tell_plan(n: u64, size: u64, answer: PlanAnswer, steps: &mut [u8]) -> u64
 
 // Plans an update, or goes on with one of which steps have failed: the region image, its status bytes, the wanted bitmap and the failed steps'
 // numbers in, up to sixteen steps out.
-#[unsafe(no_mangle)]
-pub extern "C" fn ream_update_plan(
+pub fn ream_update_plan(
     n: u64,
     size: u64,
     image: &[u8],
@@ -223,8 +216,7 @@ pub extern "C" fn ream_update_plan(
 
 // Plans a recovery, or goes on with one of which steps have failed: the region image, its status bytes and the failed steps' numbers in, up to
 // sixteen steps out.
-#[unsafe(no_mangle)]
-pub extern "C" fn ream_recovery_plan(
+pub fn ream_recovery_plan(
     n: u64,
     size: u64,
     image: &[u8],
@@ -254,8 +246,7 @@ fn image_code(answer: ImageAnswer) -> u64
 }
 
 // The page image of a step of an update's plan: what the plan was made from, the failed steps' numbers and the step's number in, 2,112 bytes out.
-#[unsafe(no_mangle)]
-pub extern "C" fn ream_update_page(
+pub fn ream_update_page(
     n: u64,
     size: u64,
     image: &[u8],
@@ -272,8 +263,7 @@ pub extern "C" fn ream_update_page(
 }
 
 // The page image of a step of a recovery's plan: what the plan was made from, the failed steps' numbers and the step's number in, 2,112 bytes out.
-#[unsafe(no_mangle)]
-pub extern "C" fn ream_recovery_page(
+pub fn ream_recovery_page(
     n: u64,
     size: u64,
     image: &[u8],
@@ -289,8 +279,7 @@ pub extern "C" fn ream_recovery_page(
 }
 
 // A page of a copy of any table: a bitmap, the copy's kind and version and the page's number in, 2,112 bytes out.
-#[unsafe(no_mangle)]
-pub extern "C" fn ream_table_page(
+pub fn ream_table_page(
     n: u64,
     size: u64,
     bitmap: &[u8],
