@@ -55,13 +55,7 @@ pub fn ream_half_code(half: &[u8], code: &mut [u8]) -> u64
 }
 
 // Writes the spare of a page: 512 data bytes, tag, path and count in, sixteen bytes out.
-pub fn ream_spare_write(
-    bytes: &[u8],
-    tag: u64,
-    path: u64,
-    count: u64,
-    spare: &mut [u8],
-) -> u64
+pub fn ream_spare_write(bytes: &[u8], tag: u64, path: u64, count: u64, spare: &mut [u8]) -> u64
     ensures answer { result ≡ write_code bytes.now tag path count spare.old }
     ensures out { spare.new ≡ spare_after bytes.now tag path count spare.old }
 {
@@ -109,12 +103,7 @@ pub fn ream_page_read(bytes: &mut [u8], spare: &[u8], fields: &mut [u8]) -> u64
 }
 
 // Maps the boot blocks among `number` blocks of the small chip: 32 spare bytes a block in, two lists of two bytes a block out.
-pub fn ream_boot_map(
-    number: u64,
-    spares: &[u8],
-    mapped: &mut [u8],
-    erased: &mut [u8],
-) -> u64
+pub fn ream_boot_map(number: u64, spares: &[u8], mapped: &mut [u8], erased: &mut [u8]) -> u64
     ensures answer { result ≡ map_code number spares.now mapped.old erased.old }
     ensures mapped { mapped.new ≡ list_after Listing.ToMap number spares.now mapped.old erased.old mapped.old }
     ensures erased { erased.new ≡ list_after Listing.ToErase number spares.now mapped.old erased.old erased.old }
@@ -140,13 +129,7 @@ pub fn ream_first_bitmap(n: u64, size: u64, marks: &[u8], bitmap: &mut [u8]) -> 
 }
 
 // Reads a settled pair: the region image and its status bytes in, the bitmap out.
-pub fn ream_table_read(
-    n: u64,
-    size: u64,
-    image: &[u8],
-    status: &[u8],
-    bitmap: &mut [u8],
-) -> u64
+pub fn ream_table_read(n: u64, size: u64, image: &[u8], status: &[u8], bitmap: &mut [u8]) -> u64
     ensures answer { result ≡ table_code n size image.now status.now bitmap.old }
     ensures out { bitmap.new ≡ table_after n size image.now status.now bitmap.old }
 {

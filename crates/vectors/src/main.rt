@@ -8,8 +8,7 @@ ghost use Rattle.std.specs.Prelude.{◌≡◌, ◌*◌, ◌<◌, length};
 
 use chip::{ChipAnswer, LargeChip, RegionBlock};
 use oob::OobAnswer;
-use std::fs;
-use std::io;
+use std::{fs, io};
 
 // A capital hexadecimal digit's value; of any other character some number below 16.
 fn digit(c: u8) -> u8

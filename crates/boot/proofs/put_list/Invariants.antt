@@ -15,7 +15,7 @@ use borrow.Author.Rules.{rules}
 use Rattle.boot.proofs.put_list.Given as goal
 
 abbrev pub invariant-loop-number : goal.invariant-loop-number
-invariant-loop-number l = 
+invariant-loop-number l =
     (l.number ≤ l.end) × (l.filled ≤ l.number) × (l.filled ≡ length (listed l.listing (in_slot l.slots) l.number))
     × (l.list ≡ starting_with (block_bytes (listed l.listing (in_slot l.slots) l.number)) l.initial.list)
 

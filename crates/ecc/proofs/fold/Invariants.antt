@@ -13,7 +13,7 @@ use Rattle.ecc.proofs.Sums.{sum_turn, sum_end}
 use Rattle.ecc.proofs.fold.Given as goal
 
 abbrev pub invariant-loop-i : goal.invariant-loop-i
-invariant-loop-i l = 
+invariant-loop-i l =
     (l.i ≤ l.n) × (length l.to ≡ l.n) × (take l.i l.to ≡ take l.i (fold_at l.n l.from)) × (bit_xor l.sum (byte_sum (drop l.i (drop l.n l.from))) ≡ byte_sum (drop l.n l.from))
 
 abbrev pub decreases-loop-i : goal.decreases-loop-i

@@ -17,8 +17,8 @@ pub loop-j-preserved : goal.loop-j-preserved
 unfolding last_set
 loop-j-preserved c =
     elim c.if-stored_bit.branch [
-      then-stored_bit w ↦ (omega arith, w.last-is ∙ rw (add-one, ← c.stored_bit.ensures, w.if-stored_bit.true))
-    | else-stored_bit w ↦ (omega arith, w.last-is ∙ rw (add-one, ← c.stored_bit.ensures, w.if-stored_bit.false) c.loop-j.invariant.1)
+      | then-stored_bit w ↦ (omega arith, w.last-is ∙ rw (add-one, ← c.stored_bit.ensures, w.if-stored_bit.true))
+      | else-stored_bit w ↦ (omega arith, w.last-is ∙ rw (add-one, ← c.stored_bit.ensures, w.if-stored_bit.false) c.loop-j.invariant.1)
     ]
 
 pub returns : goal.returns

@@ -22,8 +22,8 @@ loop-k-preserved c =
     let o = c.stored_bit-odd in
     let l = c.loop-k in
     elim c.if-even-odd.branch [
-      then-even-odd w ↦ (omega arith, w.all-is ∙ rw (add-one, ← e.ensures, ← o.ensures, beq_⊕ e.result o.result true w.if-even-odd.true))
-    | else-even-odd w ↦ (omega arith, w.all-is ∙ rw (add-one, ← e.ensures, ← o.ensures, beq_⊕ e.result o.result false w.if-even-odd.false) l.invariant.1)
+      | then-even-odd w ↦ (omega arith, w.all-is ∙ rw (add-one, ← e.ensures, ← o.ensures, beq_⊕ e.result o.result true w.if-even-odd.true))
+      | else-even-odd w ↦ (omega arith, w.all-is ∙ rw (add-one, ← e.ensures, ← o.ensures, beq_⊕ e.result o.result false w.if-even-odd.false) l.invariant.1)
     ]
 
 pub returns : goal.returns

@@ -11,7 +11,7 @@ use Rattle.ecc.proofs.Sums.{line_from, line_start, line_turn, line_end, sum_turn
 use Rattle.ecc.proofs.run_sums.Given as goal
 
 abbrev pub invariant-loop-i : goal.invariant-loop-i
-invariant-loop-i l = 
+invariant-loop-i l =
     (l.i ≤ length l.run) × (bit_xor l.line (line_from l.i (drop l.i l.run)) ≡ line_sum l.run) × (bit_xor l.all (byte_sum (drop l.i l.run)) ≡ byte_sum l.run)
 
 abbrev pub decreases-loop-i : goal.decreases-loop-i

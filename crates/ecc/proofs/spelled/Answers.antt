@@ -22,8 +22,8 @@ loop-k-preserved c =
     let room : 2 ^ (k + 1) ≤ 2 ^ 8 = pow_mono {j = 8} (omega arith) in
     let double : 2 ^ (k + 1) ≡ 2 ^ k * 2 = rw add-one (pow-suc 2 k) in
     elim c.if-stored_bit.branch [
-      then-stored_bit w ↦ (omega arith, omega arith, omega arith, omega arith, w.r-is ∙ rw (add-one, ← c.stored_bit.ensures, w.if-stored_bit.true) (omega arith))
-    | else-stored_bit w ↦ (omega arith, omega arith, omega arith, omega arith, w.r-is ∙ rw (add-one, ← c.stored_bit.ensures, w.if-stored_bit.false) (omega arith))
+      | then-stored_bit w ↦ (omega arith, omega arith, omega arith, omega arith, w.r-is ∙ rw (add-one, ← c.stored_bit.ensures, w.if-stored_bit.true) (omega arith))
+      | else-stored_bit w ↦ (omega arith, omega arith, omega arith, omega arith, w.r-is ∙ rw (add-one, ← c.stored_bit.ensures, w.if-stored_bit.false) (omega arith))
     ]
 
 pub returns : goal.returns

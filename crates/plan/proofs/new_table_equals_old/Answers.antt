@@ -33,8 +33,8 @@ loop-p-preserved c =
     let next = equal_next a.chip a.image.now pre.0 a.b.0 loop.p pre.1 here a.wanted.now pre.2 in
     let part = sym (c.new_equals_old.ensures ∙ ap₂ new_equals_old c.part.ensures c.chunk_of.ensures) in
     elim c.if-not-new_equals_old.branch [
-      then-not-new_equals_old w ↦ (omega arith, next ∙ ap₂ ◌&&◌ loop.invariant.1 (part ∙ w.if-not-new_equals_old.true) ∙ and-false loop.kept ∙ sym w.kept-is)
-    | else-not-new_equals_old w ↦ (omega arith, next ∙ ap₂ ◌&&◌ loop.invariant.1 (part ∙ w.if-not-new_equals_old.false) ∙ and-true loop.kept ∙ sym w.kept-is)
+      | then-not-new_equals_old w ↦ (omega arith, next ∙ ap₂ ◌&&◌ loop.invariant.1 (part ∙ w.if-not-new_equals_old.true) ∙ and-false loop.kept ∙ sym w.kept-is)
+      | else-not-new_equals_old w ↦ (omega arith, next ∙ ap₂ ◌&&◌ loop.invariant.1 (part ∙ w.if-not-new_equals_old.false) ∙ and-true loop.kept ∙ sym w.kept-is)
     ]
 
 pub returns : goal.returns

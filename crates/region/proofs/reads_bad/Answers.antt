@@ -95,8 +95,8 @@ pub returns : goal.returns
 returns c =
     let unmarked : bad_mark _ (page c.args.chip c.args.image.now c.args.status.now c.args.b.0 c.pages.result c.pages.ensures) ≡ false
     = elim c.if-status-first-eq0.branch [
-      then-status-first-eq0+else-signature w ↦
-      signed_unmarked _ (page c.args.chip c.args.image.now c.args.status.now c.args.b.0 c.pages.result c.pages.ensures) (told_neither (kind_of (page c.args.chip c.args.image.now c.args.status.now c.args.b.0 c.pages.result c.pages.ensures)) (w.signature.ensures ∙ ap kind_word w.kind_at.ensures) w.signature-then-status-first-eq0.ensures ∙ ne_eqb _ _ w.if-signature.false)
-    | else-status-first-eq0 w ↦ unread_unmarked _ (page c.args.chip c.args.image.now c.args.status.now c.args.b.0 c.pages.result c.pages.ensures) (ne_eqb _ _ w.if-status-first-eq0.false)
+      | then-status-first-eq0+else-signature w ↦
+          signed_unmarked _ (page c.args.chip c.args.image.now c.args.status.now c.args.b.0 c.pages.result c.pages.ensures) (told_neither (kind_of (page c.args.chip c.args.image.now c.args.status.now c.args.b.0 c.pages.result c.pages.ensures)) (w.signature.ensures ∙ ap kind_word w.kind_at.ensures) w.signature-then-status-first-eq0.ensures ∙ ne_eqb _ _ w.if-signature.false)
+      | else-status-first-eq0 w ↦ unread_unmarked _ (page c.args.chip c.args.image.now c.args.status.now c.args.b.0 c.pages.result c.pages.ensures) (ne_eqb _ _ w.if-status-first-eq0.false)
     ] in
     c.zero_oob.ensures ∙ sym (decides c.args.chip c.args.image.now c.args.status.now c.args.b.0 c.pages.result c.pages.ensures ∙ zeros_decide _ (page c.args.chip c.args.image.now c.args.status.now c.args.b.0 c.pages.result c.pages.ensures) unmarked)

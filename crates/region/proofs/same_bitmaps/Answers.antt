@@ -32,10 +32,10 @@ loop-p-preserved c =
     let parts = ap₂ same (sym c.part.ensures) (sym c.part-in-loop-p.ensures) ∙ sym c.same_bytes.ensures in
     let next = same_next a.chip a.image.now pre.0 a.x.0 a.y.0 p pre.2 pre.3 here lengths in
     elim c.if-not-same_bytes.branch [
-      then-not-same_bytes w ↦
-      (omega arith, longer, next ∙ ap₂ ◌&&◌ c.loop-p.invariant.2 (parts ∙ w.if-not-same_bytes.true) ∙ and-false c.loop-p.equal ∙ sym w.equal-is)
-    | else-not-same_bytes w ↦
-      (omega arith, longer, next ∙ ap₂ ◌&&◌ c.loop-p.invariant.2 (parts ∙ w.if-not-same_bytes.false) ∙ and-true c.loop-p.equal ∙ sym w.equal-is)
+      | then-not-same_bytes w ↦
+          (omega arith, longer, next ∙ ap₂ ◌&&◌ c.loop-p.invariant.2 (parts ∙ w.if-not-same_bytes.true) ∙ and-false c.loop-p.equal ∙ sym w.equal-is)
+      | else-not-same_bytes w ↦
+          (omega arith, longer, next ∙ ap₂ ◌&&◌ c.loop-p.invariant.2 (parts ∙ w.if-not-same_bytes.false) ∙ and-true c.loop-p.equal ∙ sym w.equal-is)
     ]
 
 pub returns : goal.returns

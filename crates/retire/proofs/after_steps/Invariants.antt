@@ -12,7 +12,7 @@ use borrow.Author.Rules.{rules}
 use Rattle.retire.proofs.after_steps.Given as goal
 
 abbrev pub invariant-loop-i : goal.invariant-loop-i
-invariant-loop-i l = 
+invariant-loop-i l =
     (l.i ≤ length l.failed)
     × (steps_retired l.n l.size l.image l.status l.gone l.plan (drop l.i l.failed) ≡ steps_retired l.n l.size l.image l.status (replicate 7 false) l.initial.plan l.failed)
 

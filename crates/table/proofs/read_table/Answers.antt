@@ -106,9 +106,12 @@ returns-in-Settled c =
     let t =
     told-case a.n a.size a.image.now a.status.now a.bitmap.now chip _ _ (sym c.case_of.ensures ∙ c.in-Case.is)
     c.in-Settled.is _ settled_reading
-    in record { answer = ap (λ (v : ℕ). Read v c.chip_block.result c.chip_block-in-Settled.result) c.version.ensures
+    in record {
+      answer = ap (λ (v : ℕ). Read v c.chip_block.result c.chip_block-in-Settled.result) c.version.ensures
           ∙ ap₂ (Read (version_of (page_bytes a.image.now (p.0 * pages_of chip)))) c.chip_block.ensures c.chip_block-in-Settled.ensures
-          ∙ t.0; out = c.copy_bitmap.ensures ∙ t.1 }
+          ∙ t.0;
+      out = c.copy_bitmap.ensures ∙ t.1;
+    }
 
 pub returns-in-Merging : goal.returns-in-Merging
 unfolding read_case

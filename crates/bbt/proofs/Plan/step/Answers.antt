@@ -17,7 +17,7 @@ unfolding retired_first nth_step
 returns c =
     let a = c.args in
     elim c.match-retired.branch [
-      in-Nothing w ↦ c.shape_step.ensures ∙ rw (w.after-is, w.in-Nothing.is)
-    | in-Block+else-k-eq0 w ↦
-      c.shape_step.ensures ∙ rw w.after-is (sym (zeros_after a.self.chip _ _ w.in-Block.is (steps_by a.self.chip a.self.shape) a.k (omega (arith, w.if-k-eq0.false))))
+      | in-Nothing w ↦ c.shape_step.ensures ∙ rw (w.after-is, w.in-Nothing.is)
+      | in-Block+else-k-eq0 w ↦
+          c.shape_step.ensures ∙ rw w.after-is (sym (zeros_after a.self.chip _ _ w.in-Block.is (steps_by a.self.chip a.self.shape) a.k (omega (arith, w.if-k-eq0.false))))
     ]
