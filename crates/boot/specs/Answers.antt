@@ -1,6 +1,6 @@
 -- Document 02, T-01: what is answered for a number of blocks and what is lent with it, and what each lent list holds afterwards. Refusals 2, 1
 -- and 13, in this order.
-use Rattle.std.specs.Prelude.{Bool, cond, ◌&&◌, List, [], ◌∷◌, ◌++◌, ℕ, ◌+◌, ◌*◌, ◌/◌, ◌%◌, eqb, leb, length, drop}
+use Rattle.std.specs.Prelude.{Bool, cond, ◌&&◌, List, [], ◌∷◌, ◌++◌, ℕ, ◌*◌, ◌/◌, ◌%◌, eqb, leb, length, drop}
 use Rattle.chip.specs.Refusals.{refusal_number, refusal_detail}
 use Rattle.chip.specs.declared.ChipBlock.{ChipBlock}
 use Rattle.chip.specs.declared.Refusal.TheVariants.{Length, Range}

@@ -1,7 +1,7 @@
 -- The first pair of tables. Each step of the recipe keeps what `Left` says, so what is found wherever it stops is read off it; from a copy alone
 -- histories begin (`OneCopy`).
 -- Assumes nothing.
-use mathlib.Core.Bool.{true, false, true≢false}
+use mathlib.Core.Bool.{false, true≢false}
 use mathlib.Core.List.{List, ◌∷◌}
 use mathlib.Core.Path.{◌≡◌, refl, sym, ◌∙◌, subst}
 use Prim.Native.Nat.{ℕ, ◌<◌}

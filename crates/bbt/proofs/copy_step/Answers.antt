@@ -1,7 +1,6 @@
 -- `copy_step` meets its contract: its test is that of `copy_step`.
 -- Assumes nothing.
 use borrow.Author.Tests.{eq-eqb, ne_eqb}
-use borrow.Author.Rules.{rules}
 use Rattle.bbt.proofs.copy_step.Goals as goal
 
 pub returns-then-k-eq0 : goal.returns-then-k-eq0

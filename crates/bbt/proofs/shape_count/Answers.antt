@@ -7,7 +7,6 @@ use lib.ListN.{length}
 use Rattle.chip.specs.Large.{pages_of}
 use Rattle.bbt.specs.Told.{steps_by}
 use Rattle.bbt.proofs.ToldSteps.{count_by, count_by_lem}
-use borrow.Author.Rules.{rules}
 use Rattle.bbt.proofs.shape_count.Goals as goal
 
 pub returns-in-Empty : goal.returns-in-Empty

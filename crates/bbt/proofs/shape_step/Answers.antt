@@ -4,7 +4,6 @@ use mathlib.Core.Path.{◌∙◌, ap, sym}
 use borrow.Author.Tests.{lt-ltb, le-ltb, le-leb, lt-leb}
 use Rattle.bbt.specs.declared.Shape.{Shape}
 use Rattle.bbt.proofs.ToldSteps.{step_by, step_by_lem}
-use borrow.Author.Rules.{rules}
 use Rattle.bbt.proofs.shape_step.Goals as goal
 
 pub returns-then-p-k : goal.returns-then-p-k

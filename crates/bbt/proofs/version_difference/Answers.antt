@@ -9,7 +9,6 @@ use mir.Syntax.{w32}
 use mir.Val.{SFits, to_z}
 use mir.Facts.{to_z-of_z, to_z_pos}
 use Rattle.bbt.specs.Pairs.{signed_of, difference}
-use borrow.Author.Rules.{rules}
 use Rattle.bbt.proofs.version_difference.Goals as goal
 
 small : (u : ℕ) → u < 256 → u < 2 ^ 31

@@ -3,7 +3,6 @@
 use mathlib.Core.Path.{refl}
 use native.Mathlib.Omega.{arith}
 use Rattle.bbt.specs.Told.{retired_first}
-use borrow.Author.Rules.{rules}
 use Rattle.bbt.proofs.zero_count.Goals as goal
 
 pub returns-in-Nothing : goal.returns-in-Nothing

@@ -1,11 +1,11 @@
 -- `and_into` meets its contract: after i turns `out` is filled with the first i bytes of the AND.
 -- Assumes nothing.
 use mathlib.Core.Path.{◌≡◌, refl, sym}
-use Prim.Native.Nat.{ℕ, ◌≤◌, ◌-◌}
+use Prim.Native.Nat.{ℕ}
 use native.Mathlib.Omega.{arith}
 use borrow.Author.Tests.{eq-eqb, ne_eqb}
 use lib.ListN.{length, length-set}
-use Rattle.bits.proofs.Filling.{filled, fill_start, fill_turn}
+use Rattle.bits.proofs.Filling.{fill_start, fill_turn}
 use lib.Bits.{bit_and}
 use Rattle.bitmap.specs.Made.{anded_into}
 use Rattle.bitmap.proofs.Into.{place, and_into}

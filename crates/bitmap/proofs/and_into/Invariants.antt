@@ -1,14 +1,11 @@
 -- `and_into` meets its contract: after i turns `out` is filled with the first i bytes of the AND.
 -- Assumes nothing.
-use mathlib.Core.Path.{◌≡◌, refl, sym}
-use Prim.Native.Nat.{ℕ, ◌≤◌, ◌-◌}
-use native.Mathlib.Omega.{arith}
-use borrow.Author.Tests.{eq-eqb, ne_eqb}
-use lib.ListN.{length, length-set}
-use Rattle.bits.proofs.Filling.{filled, fill_start, fill_turn}
+use mathlib.Core.Path.{◌≡◌}
+use Prim.Native.Nat.{◌≤◌, ◌-◌}
+use lib.ListN.{length}
+use Rattle.bits.proofs.Filling.{filled}
 use lib.Bits.{bit_and}
-use Rattle.bitmap.specs.Made.{anded_into}
-use Rattle.bitmap.proofs.Into.{place, and_into}
+use Rattle.bitmap.proofs.Into.{place}
 use Rattle.bitmap.proofs.and_into.Given as goal
 
 abbrev pub invariant-loop-i : goal.invariant-loop-i

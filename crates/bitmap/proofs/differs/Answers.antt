@@ -1,10 +1,9 @@
 -- `differs` meets its contract: after i turns what is gathered is 0 where the first i bytes are the same.
 -- Assumes nothing.
-use mathlib.Core.Path.{◌≡◌, refl}
-use Prim.Native.Nat.{◌≤◌, ◌-◌}
+use mathlib.Core.Path.{refl}
 use native.Mathlib.Omega.{arith}
 use lib.Dec.{eqb}
-use lib.ListN.{length, get_or, take}
+use lib.ListN.{get_or}
 use Rattle.bits.proofs.Gathering.{gather_turn, gather_end}
 use Rattle.bbt.specs.Pairs.{same}
 use Rattle.bitmap.proofs.differs.Goals as goal

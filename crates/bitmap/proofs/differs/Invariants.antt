@@ -1,11 +1,9 @@
 -- `differs` meets its contract: after i turns what is gathered is 0 where the first i bytes are the same.
 -- Assumes nothing.
-use mathlib.Core.Path.{◌≡◌, refl}
+use mathlib.Core.Path.{◌≡◌}
 use Prim.Native.Nat.{◌≤◌, ◌-◌}
-use native.Mathlib.Omega.{arith}
 use lib.Dec.{eqb}
-use lib.ListN.{length, get_or, take}
-use Rattle.bits.proofs.Gathering.{gather_turn, gather_end}
+use lib.ListN.{length, take}
 use Rattle.bbt.specs.Pairs.{same}
 use Rattle.bitmap.proofs.differs.Given as goal
 

@@ -1,11 +1,11 @@
 -- `same_bytes` meets its contract: at each turn what is asked of the whole is asked of what is left.
 -- Assumes nothing.
-use mathlib.Core.Path.{◌≡◌, refl, sym, ◌∙◌}
-use Prim.Native.Nat.{◌+◌, ◌≤◌, ◌-◌}
+use mathlib.Core.Path.{refl, sym, ◌∙◌}
+use Prim.Native.Nat.{◌+◌, ◌≤◌}
 use native.Mathlib.Omega.{arith}
 use borrow.Author.Tests.{eq-eqb, ne_eqb}
 use lib.Dec.{eqb}
-use lib.ListN.{length, drop, length-take, length-drop, drop_of_length-le}
+use lib.ListN.{length, length-take, length-drop, drop_of_length-le}
 use Rattle.bits.proofs.Gathering.{part_turn, part_end}
 use Rattle.bbt.specs.Pairs.{same}
 use Rattle.bbt.proofs.Bitmaps.{same_lengths}

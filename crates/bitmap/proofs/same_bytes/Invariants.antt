@@ -1,14 +1,9 @@
 -- `same_bytes` meets its contract: at each turn what is asked of the whole is asked of what is left.
 -- Assumes nothing.
-use mathlib.Core.Path.{◌≡◌, refl, sym, ◌∙◌}
-use Prim.Native.Nat.{◌+◌, ◌≤◌, ◌-◌}
-use native.Mathlib.Omega.{arith}
-use borrow.Author.Tests.{eq-eqb, ne_eqb}
-use lib.Dec.{eqb}
-use lib.ListN.{length, drop, length-take, length-drop, drop_of_length-le}
-use Rattle.bits.proofs.Gathering.{part_turn, part_end}
+use mathlib.Core.Path.{◌≡◌}
+use Prim.Native.Nat.{◌≤◌, ◌-◌}
+use lib.ListN.{length, drop}
 use Rattle.bbt.specs.Pairs.{same}
-use Rattle.bbt.proofs.Bitmaps.{same_lengths}
 use Rattle.bitmap.proofs.same_bytes.Given as goal
 
 abbrev pub invariant-loop-compared : goal.invariant-loop-compared

@@ -1,12 +1,11 @@
 -- `update_into` meets its contract: after i turns `out` is filled with the first i bytes of the update.
 -- Assumes nothing.
 use mathlib.Core.Path.{◌≡◌, refl, sym}
-use Prim.Native.Nat.{ℕ, ◌≤◌, ◌-◌}
+use Prim.Native.Nat.{ℕ}
 use native.Mathlib.Omega.{arith}
 use borrow.Author.Tests.{eq-eqb, ne_eqb}
 use lib.ListN.{length, length-set}
-use Rattle.bits.proofs.Filling.{filled, fill_start, fill_turn}
-use borrow.Author.Rules.{rules}
+use Rattle.bits.proofs.Filling.{fill_start, fill_turn}
 use Rattle.bbt.specs.Entries.{updated_byte}
 use Rattle.bitmap.specs.Made.{updated_into}
 use Rattle.bitmap.proofs.Into.{place, updated-into}

@@ -2,7 +2,6 @@
 -- Assumes nothing.
 use native.Mathlib.Omega.{arith}
 use borrow.Author.Tests.{le-leb, lt-leb}
-use borrow.Author.Rules.{rules}
 use Rattle.boot.proofs.above_with.Goals as goal
 
 pub returns-then-highest-k : goal.returns-then-highest-k

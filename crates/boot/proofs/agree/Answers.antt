@@ -1,7 +1,6 @@
 -- `agree` meets its contract: its test is that of `agreed`.
 -- Assumes nothing.
 use borrow.Author.Tests.{eq-eqb, ne_eqb}
-use borrow.Author.Rules.{rules}
 use Rattle.boot.proofs.agree.Goals as goal
 
 pub returns-then-p-q : goal.returns-then-p-q

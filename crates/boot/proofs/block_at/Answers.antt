@@ -7,7 +7,6 @@ use lib.ListN.{take, drop}
 use Rattle.spare.specs.Reading.{spare_answer}
 use Rattle.boot.specs.Counting.{path_by, agreed, block_at}
 use Rattle.boot.specs.declared.PagePath.{PagePath}
-use borrow.Author.Rules.{rules}
 use Rattle.boot.proofs.block_at.Goals as goal
 
 pub returns : goal.returns

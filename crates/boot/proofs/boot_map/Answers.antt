@@ -5,7 +5,6 @@ use Prim.Native.Nat.{◌*◌}
 use borrow.Author.Tests.{eq-eqb, ne_eqb, le-leb, lt-leb}
 use lib.ListN.{length}
 use Rattle.boot.specs.Answers.{is_lent, map_answer}
-use borrow.Author.Rules.{rules}
 use Rattle.boot.proofs.boot_map.Goals as goal
 
 pub returns-then-number-gt-MOST_BLOCKS : goal.returns-then-number-gt-MOST_BLOCKS

@@ -1,7 +1,6 @@
 -- `boot_of` meets its contract: the number and the generation are those of `boot_of`.
 -- Assumes nothing.
 use mathlib.Core.Path.{refl, sym, ◌∙◌}
-use borrow.Author.Rules.{rules}
 use Rattle.boot.proofs.boot_of.Goals as goal
 
 pub returns-in-Boot : goal.returns-in-Boot

@@ -1,7 +1,6 @@
 -- `entry_of` meets its contract in each case of list and standing.
 -- Assumes nothing.
 use mathlib.Core.Path.{refl}
-use borrow.Author.Rules.{rules}
 use Rattle.boot.proofs.entry_of.Goals as goal
 
 pub returns-in-One : goal.returns-in-One

@@ -1,14 +1,10 @@
 -- `gather` meets its contract: after b turns the slots tell how each number stands by the first b blocks.
 -- Assumes nothing.
-use mathlib.Core.Path.{◌≡◌, refl, sym, ◌∙◌}
-use Prim.Native.Nat.{ℕ, ◌-◌, ◌≤◌}
-use native.Mathlib.Omega.{arith}
+use mathlib.Core.Path.{◌≡◌}
+use Prim.Native.Nat.{◌-◌, ◌≤◌}
 use Rattle.boot.specs.Counting.{block_at}
-use Rattle.boot.specs.Mapping.{copies, standing, above}
+use Rattle.boot.specs.Mapping.{standing, above}
 use Rattle.boot.specs.Slots.{slots_of}
-use Rattle.boot.proofs.Keeping.{slots_turn, above_turn}
-use Rattle.boot.proofs.Slots.{length_slots}
-use borrow.Author.Rules.{rules}
 use Rattle.boot.proofs.gather.Given as goal
 
 abbrev pub invariant-loop-b : goal.invariant-loop-b

@@ -1,7 +1,6 @@
 -- `join` meets its contract: its tests are those of `joined`.
 -- Assumes nothing.
 use mathlib.Core.Path.{refl, sym, ◌∙◌}
-use borrow.Author.Rules.{rules}
 use Rattle.boot.proofs.join.Goals as goal
 
 pub returns-then-follows : goal.returns-then-follows

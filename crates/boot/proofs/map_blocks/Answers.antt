@@ -7,7 +7,6 @@ use Rattle.boot.proofs.Judging.{slots_start, map_refused, map-told}
 use Rattle.boot.specs.Counting.{block_at}
 use Rattle.boot.specs.Mapping.{above}
 use Rattle.boot.specs.declared.Listing.TheVariants.{ToMap, ToErase}
-use borrow.Author.Rules.{rules}
 use Rattle.boot.proofs.map_blocks.Goals as goal
 
 pub gather-requires : goal.gather-requires

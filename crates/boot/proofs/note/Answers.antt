@@ -2,7 +2,6 @@
 -- Assumes nothing.
 use mathlib.Core.Path.{refl}
 use borrow.Author.Tests.{lt-ltb, le-ltb}
-use borrow.Author.Rules.{rules}
 use Rattle.boot.proofs.note.Goals as goal
 
 pub returns-then-at-slots : goal.returns-then-at-slots

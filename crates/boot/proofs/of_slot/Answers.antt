@@ -2,7 +2,6 @@
 -- Assumes nothing.
 use borrow.Author.Tests.{eq-eqb, ne_eqb, le-leb, lt-leb}
 use Rattle.boot.specs.Slots.{of_slot}
-use borrow.Author.Rules.{rules}
 use Rattle.boot.proofs.of_slot.Goals as goal
 
 pub returns-then-slot-eq0 : goal.returns-then-slot-eq0

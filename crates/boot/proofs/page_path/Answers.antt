@@ -2,7 +2,6 @@
 -- Assumes nothing.
 use mathlib.Core.Path.{sym, ◌∙◌}
 use borrow.Author.Tests.{eq-eqb, ne_eqb}
-use borrow.Author.Rules.{rules}
 use Rattle.boot.proofs.page_path.Goals as goal
 
 pub returns-then-f-eq-BOOT : goal.returns-then-f-eq-BOOT

@@ -3,7 +3,6 @@
 use mathlib.Core.Path.{refl}
 use native.Mathlib.Omega.{arith}
 use lib.ListN.{length-set}
-use borrow.Author.Rules.{rules}
 use Rattle.boot.proofs.put_entry.Goals as goal
 
 pub bounds-list-at-in-Block : goal.bounds-list-at-in-Block

@@ -1,17 +1,16 @@
 -- `put_list` meets its contract: at each turn the list starts with the entries of the numbers before.
 -- Assumes nothing.
 use mathlib.Core.Path.{◌≡◌, refl}
-use Prim.Native.Nat.{ℕ, ◌+◌, ◌-◌, ◌≤◌}
+use Prim.Native.Nat.{ℕ, ◌+◌, ◌≤◌}
 use native.Mathlib.Numerals.{add-one}
 use native.Mathlib.Omega.{arith}
 use lib.ListN.{length, length-append}
-use Rattle.boot.specs.Answers.{block_bytes, starting_with}
+use Rattle.boot.specs.Answers.{block_bytes}
 use Rattle.boot.specs.Mapping.{listed}
 use Rattle.boot.specs.Slots.{in_slot, entry_blocks}
 use Rattle.boot.proofs.Putting.{entry_of_one, put_turn, length_starting}
 use Rattle.chip.specs.declared.ChipBlock.{ChipBlock}
 use mathlib.Core.List.{List, ◌++◌}
-use borrow.Author.Rules.{rules}
 use Rattle.boot.proofs.put_list.Goals as goal
 
 pub loop-number-init : goal.loop-number-init

@@ -2,7 +2,6 @@
 -- Assumes nothing.
 use mathlib.Core.Path.{refl}
 use Rattle.boot.specs.Slots.{slot_of}
-use borrow.Author.Rules.{rules}
 use Rattle.boot.proofs.slot_of.Goals as goal
 
 pub returns-in-Missing : goal.returns-in-Missing

@@ -2,14 +2,12 @@
 -- Assumes nothing.
 use mathlib.Core.Bool.{true, false}
 use mathlib.Core.Path.{◌≡◌, refl, sym, ◌∙◌, ap}
-use Prim.Native.Nat.{ℕ, ◌-◌, ◌≤◌}
+use Prim.Native.Nat.{ℕ}
 use native.Mathlib.Nat.{sub-zero}
 use native.Mathlib.Omega.{arith}
-use borrow.Author.Tests.{not-true, not-false}
-use Rattle.boot.specs.Mapping.{in_order, first_not}
+use Rattle.boot.specs.Mapping.{in_order}
 use Rattle.boot.specs.Slots.{in_slot}
 use Rattle.boot.proofs.Searching.{first_not_turn, first_not_end}
-use borrow.Author.Rules.{rules}
 use Rattle.boot.proofs.smallest_out.Goals as goal
 
 pub loop-k-init : goal.loop-k-init

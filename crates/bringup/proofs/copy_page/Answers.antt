@@ -2,7 +2,6 @@
 -- Assumes nothing.
 use mathlib.Core.Path.{◌∙◌, sym}
 use native.Mathlib.Omega.{arith}
-use borrow.Author.Rules.{rules}
 use Rattle.bringup.specs.TablePages.{copy_image}
 use Rattle.bringup.proofs.Pages.{version_fits, page_fits, made_page}
 use Rattle.bringup.proofs.copy_page.Goals as goal

@@ -1,6 +1,5 @@
 -- `is_copy_page` meets its contract: each test decides one part of `is_copy_page`.
 -- Assumes nothing.
-use borrow.Author.Rules.{rules}
 use borrow.Author.Tests.{le-leb, lt-leb}
 use Rattle.bringup.specs.TablePages.{is_copy_page}
 use Rattle.bringup.proofs.is_copy_page.Goals as goal

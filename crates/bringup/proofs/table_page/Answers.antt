@@ -1,7 +1,6 @@
 -- `table_page` meets its contract: the chip or its refusal, then both lengths, then what `copy_page` answers.
 -- Assumes nothing.
 use mathlib.Core.Path.{sym, ◌∙◌}
-use borrow.Author.Rules.{rules}
 use Rattle.bbt.specs.Images.{no_image}
 use Rattle.chip.specs.declared.Refusal.TheVariants.{Length}
 use Rattle.bringup.specs.TablePages.{copy_image}

@@ -3,7 +3,6 @@
 use native.Mathlib.Omega.{arith}
 use borrow.Author.Tests.{le-leb, lt-leb}
 use Rattle.chip.specs.Large.{is_region}
-use borrow.Author.Rules.{rules}
 use Rattle.chip.proofs.is_region.Goals as goal
 
 pub returns-then-size-le-LARGEST_REGION : goal.returns-then-size-le-LARGEST_REGION

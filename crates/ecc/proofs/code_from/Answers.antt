@@ -1,6 +1,5 @@
 -- `ecc::code_from` meets its contract: byte by byte, by its calls.
 -- Assumes nothing.
-use borrow.Author.Rules.{rules}
 use Rattle.ecc.specs.Sums.{code_from_sums}
 use Rattle.ecc.proofs.code_from.Goals as goal
 

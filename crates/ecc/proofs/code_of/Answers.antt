@@ -1,6 +1,5 @@
 -- `ecc::code_of` meets its contract: `code_sums`, with the sums of the whole run.
 -- Assumes nothing.
-use borrow.Author.Rules.{rules}
 use Rattle.ecc.specs.Sums.{byte_sum}
 use Rattle.ecc.proofs.Codes.{code_sums}
 use Rattle.ecc.proofs.Sums.{sum_parity}

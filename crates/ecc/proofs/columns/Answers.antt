@@ -2,7 +2,6 @@
 -- Assumes nothing.
 use Prim.Native.Nat.{ℕ, ◌+◌, ◌*◌}
 use native.Mathlib.Omega.{arith}
-use borrow.Author.Rules.{rules}
 use lib.Bits.{bit_and, bit_or}
 use lib.Dec.{eqb, eqb→eq}
 use Rattle.bits.specs.Bits.{bit, number, parity_of}

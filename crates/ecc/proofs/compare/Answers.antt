@@ -1,7 +1,6 @@
 -- `ecc::compare` meets its contract: the XOR of the bytes has the difference of each code bit.
 -- Assumes nothing.
 use mathlib.Core.Path.{◌∙◌, ap, fun_ext}
-use borrow.Author.Rules.{rules}
 use Rattle.ecc.specs.Verdicts.{verdict}
 use Rattle.ecc.proofs.Stored.{stored_xor}
 use Rattle.ecc.proofs.compare.Goals as goal

@@ -1,13 +1,10 @@
 -- `ecc::fold` meets its contract: after i turns the first i bytes are the fold's, and what is XORed so far and the sum of the upper bytes to
 -- come make the sum of the upper part.
 -- Assumes nothing.
-use mathlib.Core.Path.{◌≡◌, refl}
-use Prim.Native.Nat.{◌-◌, ◌<◌, ◌≤◌}
+use Prim.Native.Nat.{◌<◌}
 use native.Mathlib.Omega.{arith}
-use lib.Bits.{bit_xor}
-use lib.ListN.{length, take, drop, length-drop, length-set}
+use lib.ListN.{length, drop, length-drop, length-set}
 use lib.Seq.{get_or-drop}
-use Rattle.ecc.specs.Sums.{byte_sum, fold_at}
 use Rattle.ecc.proofs.Folds.{fold_turn, fold_end}
 use Rattle.ecc.proofs.Sums.{sum_turn, sum_end}
 use Rattle.ecc.proofs.fold.Goals as goal

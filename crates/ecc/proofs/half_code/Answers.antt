@@ -1,7 +1,6 @@
 -- `ecc::half_code` meets its contract: `code_folds`, with the sums that its calls give.
 -- Assumes nothing.
 use native.Mathlib.Omega.{arith}
-use borrow.Author.Rules.{rules}
 use Rattle.ecc.proofs.Codes.{code_folds}
 use Rattle.ecc.proofs.Folds.{line_lt}
 use Rattle.ecc.proofs.half_code.Goals as goal

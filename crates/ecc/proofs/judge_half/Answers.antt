@@ -1,6 +1,5 @@
 -- `ecc::judge_half` meets its contract, by its calls.
 -- Assumes nothing.
-use borrow.Author.Rules.{rules}
 use Rattle.ecc.proofs.judge_half.Goals as goal
 
 pub returns : goal.returns

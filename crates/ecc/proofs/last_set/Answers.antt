@@ -1,10 +1,8 @@
 -- `ecc::last_set` meets its contract: after j turns it has the last of the first j bits that is set.
 -- Assumes nothing.
 use mathlib.Core.Path.{◌≡◌, refl, ◌∙◌}
-use Prim.Native.Nat.{◌-◌, ◌≤◌}
 use native.Mathlib.Numerals.{add-one}
 use native.Mathlib.Omega.{arith}
-use Rattle.ecc.specs.Half.{stored_bit}
 use Rattle.ecc.specs.Verdicts.{last_set}
 use Rattle.ecc.proofs.last_set.Goals as goal
 use Rattle.ecc.proofs.last_set.Goals.{then-stored_bit, else-stored_bit}

@@ -1,10 +1,7 @@
 -- `ecc::last_set` meets its contract: after j turns it has the last of the first j bits that is set.
 -- Assumes nothing.
-use mathlib.Core.Path.{◌≡◌, refl, ◌∙◌}
-use mathlib.Core.Logic.{⊎_elim}
+use mathlib.Core.Path.{◌≡◌}
 use Prim.Native.Nat.{◌-◌, ◌≤◌}
-use native.Mathlib.Numerals.{add-one}
-use native.Mathlib.Omega.{arith}
 use Rattle.ecc.specs.Half.{stored_bit}
 use Rattle.ecc.specs.Verdicts.{last_set}
 use Rattle.ecc.proofs.last_set.Given as goal

@@ -4,7 +4,6 @@ use mathlib.Core.Path.{sym}
 use Prim.Native.Nat.{◌<◌}
 use native.Mathlib.Nat.{one-mul, mod-eq_of_lt}
 use borrow.Author.Tests.{lt-ltb, le-ltb}
-use borrow.Author.Rules.{rules}
 use lib.Pow.{pow-lt}
 use lib.Seq.{set_out}
 use Rattle.ecc.proofs.mend.Goals as goal

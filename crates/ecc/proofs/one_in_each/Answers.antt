@@ -2,11 +2,9 @@
 -- Assumes nothing.
 use mathlib.Core.Path.{◌≡◌, refl, ◌∙◌}
 use mathlib.Core.Bool.{true, false}
-use Prim.Native.Nat.{◌-◌, ◌≤◌}
 use native.Mathlib.Numerals.{add-one}
 use native.Mathlib.Omega.{arith}
 use Rattle.bits.proofs.Sums.{beq_⊕}
-use Rattle.ecc.specs.Half.{stored_bit}
 use Rattle.ecc.specs.Verdicts.{one_in_each}
 use Rattle.ecc.proofs.one_in_each.Goals as goal
 use Rattle.ecc.proofs.one_in_each.Goals.{then-even-odd, else-even-odd}

@@ -1,12 +1,7 @@
 -- `ecc::one_in_each` meets its contract: after k turns it has what `one_in_each` says of the first k pairs.
 -- Assumes nothing.
-use mathlib.Core.Path.{◌≡◌, refl, ◌∙◌}
-use mathlib.Core.Bool.{true, false}
-use mathlib.Core.Logic.{⊎_elim}
+use mathlib.Core.Path.{◌≡◌}
 use Prim.Native.Nat.{◌-◌, ◌≤◌}
-use native.Mathlib.Numerals.{add-one}
-use native.Mathlib.Omega.{arith}
-use Rattle.bits.proofs.Sums.{beq_⊕}
 use Rattle.ecc.specs.Half.{stored_bit}
 use Rattle.ecc.specs.Verdicts.{one_in_each}
 use Rattle.ecc.proofs.one_in_each.Given as goal

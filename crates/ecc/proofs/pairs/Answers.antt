@@ -2,7 +2,6 @@
 -- Assumes nothing.
 use mathlib.Core.Bool.{Bool}
 use Prim.Native.Nat.{ℕ, ◌-◌, ◌*◌, ◌%◌}
-use borrow.Author.Rules.{rules}
 use lib.Bits.{bit_or, bit_xor}
 use lib.Dec.{eqb, eqb→eq}
 use Rattle.bits.specs.Bits.{bit, number}

@@ -1,13 +1,10 @@
 -- `ecc::run_sums` meets its contract. What is XORed so far and the sum of the bytes to come make the sum of all.
 -- Assumes nothing.
-use mathlib.Core.Path.{◌≡◌, refl}
-use Prim.Native.Nat.{◌-◌, ◌<◌, ◌≤◌}
+use mathlib.Core.Path.{refl}
+use Prim.Native.Nat.{◌<◌, ◌≤◌}
 use native.Mathlib.Omega.{arith}
-use borrow.Author.Rules.{rules}
-use lib.Bits.{bit_xor}
-use lib.ListN.{length, drop}
-use Rattle.ecc.specs.Sums.{line_sum, byte_sum}
-use Rattle.ecc.proofs.Sums.{line_from, line_start, line_turn, line_end, sum_turn, sum_end}
+use lib.ListN.{length}
+use Rattle.ecc.proofs.Sums.{line_start, line_turn, line_end, sum_turn, sum_end}
 use Rattle.ecc.proofs.run_sums.Goals as goal
 
 pub loop-i-init : goal.loop-i-init

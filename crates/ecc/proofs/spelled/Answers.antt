@@ -1,13 +1,12 @@
 -- `ecc::spelled` meets its contract: after k turns p is 2 ^ k and r the number of the first k bits.
 -- Assumes nothing.
 use mathlib.Core.Path.{◌≡◌, refl, ◌∙◌}
-use Prim.Native.Nat.{◌-◌, ◌+◌, ◌*◌, ◌≤◌, ◌<◌, ◌^◌}
+use Prim.Native.Nat.{◌+◌, ◌*◌, ◌≤◌, ◌^◌}
 use native.Mathlib.Nat.{pow-suc}
 use native.Mathlib.Numerals.{add-one}
 use native.Mathlib.Omega.{arith}
 use lib.Pow.{pow_mono}
 use Rattle.bits.specs.Bits.{number}
-use Rattle.ecc.specs.Half.{stored_bit}
 use Rattle.ecc.proofs.spelled.Goals as goal
 use Rattle.ecc.proofs.spelled.Goals.{then-stored_bit, else-stored_bit}
 

@@ -1,12 +1,7 @@
 -- `ecc::spelled` meets its contract: after k turns p is 2 ^ k and r the number of the first k bits.
 -- Assumes nothing.
-use mathlib.Core.Path.{◌≡◌, refl, ◌∙◌}
-use mathlib.Core.Logic.{⊎_elim}
+use mathlib.Core.Path.{◌≡◌}
 use Prim.Native.Nat.{◌-◌, ◌+◌, ◌*◌, ◌≤◌, ◌<◌, ◌^◌}
-use native.Mathlib.Nat.{pow-suc}
-use native.Mathlib.Numerals.{add-one}
-use native.Mathlib.Omega.{arith}
-use lib.Pow.{pow_mono}
 use Rattle.bits.specs.Bits.{number}
 use Rattle.ecc.specs.Half.{stored_bit}
 use Rattle.ecc.proofs.spelled.Given as goal

@@ -1,7 +1,6 @@
 -- `ecc::stored_bit` meets its contract: its tests are those of `stored_bit`.
 -- Assumes nothing.
 use borrow.Author.Tests.{lt-ltb, le-ltb}
-use borrow.Author.Rules.{rules}
 use Rattle.bits.specs.Bits.{bit}
 use Rattle.ecc.specs.Half.{stored_bit}
 use Rattle.ecc.proofs.stored_bit.Goals as goal

@@ -1,10 +1,10 @@
 -- `fill_first` meets its contract: after i turns `bitmap` is filled with the first i bytes.
 -- Assumes nothing.
 use mathlib.Core.Path.{◌≡◌, refl, sym, ◌∙◌}
-use Prim.Native.Nat.{ℕ, ◌*◌, ◌≤◌, ◌-◌}
+use Prim.Native.Nat.{ℕ, ◌*◌}
 use native.Mathlib.Omega.{arith}
 use lib.ListN.{length, length-set}
-use Rattle.bits.proofs.Filling.{filled, fill_start, fill_turn, fill_end}
+use Rattle.bits.proofs.Filling.{fill_start, fill_turn, fill_end}
 use Rattle.bbt.specs.Entries.{first_byte}
 use Rattle.factory.specs.Marks.{first_at}
 use Rattle.factory.proofs.First.{first_at_byte}

@@ -1,13 +1,10 @@
 -- `fill_first` meets its contract: after i turns `bitmap` is filled with the first i bytes.
 -- Assumes nothing.
-use mathlib.Core.Path.{◌≡◌, refl, sym, ◌∙◌}
-use Prim.Native.Nat.{ℕ, ◌*◌, ◌≤◌, ◌-◌}
-use native.Mathlib.Omega.{arith}
-use lib.ListN.{length, length-set}
-use Rattle.bits.proofs.Filling.{filled, fill_start, fill_turn, fill_end}
+use mathlib.Core.Path.{◌≡◌}
+use Prim.Native.Nat.{◌≤◌, ◌-◌}
+use lib.ListN.{length}
+use Rattle.bits.proofs.Filling.{filled}
 use Rattle.bbt.specs.Entries.{first_byte}
-use Rattle.factory.specs.Marks.{first_at}
-use Rattle.factory.proofs.First.{first_at_byte}
 use Rattle.factory.proofs.fill_first.Given as goal
 
 abbrev pub invariant-loop-i : goal.invariant-loop-i

@@ -2,7 +2,6 @@
 -- Assumes nothing.
 use mathlib.Core.Path.{sym, ◌∙◌}
 use Rattle.factory.proofs.First.{refused_first, made_first}
-use borrow.Author.Rules.{rules}
 use Rattle.factory.proofs.first_bitmap.Goals as goal
 
 pub returns-in-Refused : goal.returns-in-Refused

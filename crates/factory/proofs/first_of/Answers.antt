@@ -1,7 +1,6 @@
 -- `first_of` meets its contract: what it gathers of any eight flags are the four blocks' entries (SideBySide.antt).
 -- Assumes nothing.
 use native.Mathlib.Omega.{arith}
-use borrow.Author.Rules.{rules}
 use Rattle.factory.proofs.SideBySide.{good_small, of_flags}
 use Rattle.factory.proofs.first_of.Goals as goal
 

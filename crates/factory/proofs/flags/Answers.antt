@@ -3,7 +3,6 @@
 use mathlib.Core.List.{[], ◌∷◌}
 use native.Mathlib.Omega.{arith}
 use lib.Bits.{and_le_r}
-use borrow.Author.Rules.{rules}
 use Rattle.factory.proofs.SideBySide.{of_marks}
 use Rattle.factory.proofs.flags.Goals as goal
 

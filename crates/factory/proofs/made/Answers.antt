@@ -7,7 +7,6 @@ use borrow.Author.Tests.{eq-eqb, ne_eqb}
 use lib.Dec.{eqb}
 use lib.ListN.{length}
 use Rattle.factory.specs.FirstBitmap.{marks_lent}
-use borrow.Author.Rules.{rules}
 use Rattle.factory.proofs.made.Goals as goal
 
 pub returns-then-marks-chip : goal.returns-then-marks-chip

@@ -6,7 +6,6 @@ use lib.Count.{ones, ones_in}
 use Rattle.bits.specs.Bits.{bit, number}
 use Rattle.hamming.specs.Word.{house_numbers, not_powers, check_bits}
 use Rattle.hamming.proofs.Checks.{check_masked}
-use borrow.Author.Rules.{rules}
 use Rattle.hamming.proofs.check_bits.Goals as goal
 
 pub returns : goal.returns

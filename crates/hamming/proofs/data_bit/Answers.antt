@@ -3,7 +3,6 @@
 use borrow.Author.Tests.{lt-ltb, le-ltb}
 use native.Mathlib.Omega.{arith}
 use Rattle.hamming.proofs.Numbers.{placed_right}
-use borrow.Author.Rules.{rules}
 use Rattle.hamming.proofs.data_bit.Goals as goal
 
 pub returns-then-n-lt4 : goal.returns-then-n-lt4

@@ -10,7 +10,6 @@ use Rattle.bits.proofs.Bit.{one_shifted}
 use Rattle.hamming.specs.Word.{named, decoded_by, decoded}
 use Rattle.hamming.specs.declared.Repair.TheVariants.{DataBit}
 use Rattle.hamming.proofs.Numbers.{above_two}
-use borrow.Author.Rules.{rules}
 use Rattle.hamming.proofs.decode.Goals as goal
 
 pub returns-then-named-eq0 : goal.returns-then-named-eq0

@@ -2,7 +2,6 @@
 -- Assumes nothing.
 use native.Mathlib.Omega.{arith}
 use Rattle.hamming.specs.Word.{encoded}
-use borrow.Author.Rules.{rules}
 use Rattle.hamming.proofs.encode.Goals as goal
 
 pub returns : goal.returns

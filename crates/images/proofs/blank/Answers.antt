@@ -1,10 +1,10 @@
 -- `blank` meets its contract: after i turns the first i bytes are FF.
 -- Assumes nothing.
 use mathlib.Core.Path.{◌≡◌, refl, sym, ◌∙◌}
-use Prim.Native.Nat.{ℕ, ◌≤◌, ◌-◌}
+use Prim.Native.Nat.{ℕ}
 use native.Mathlib.Omega.{arith}
 use lib.ListN.{length, length-set}
-use Rattle.bits.proofs.Filling.{filled, fill_start, fill_turn, fill_end, build_replicate}
+use Rattle.bits.proofs.Filling.{fill_start, fill_turn, fill_end, build_replicate}
 use Rattle.images.proofs.blank.Goals as goal
 
 pub loop-i-init : goal.loop-i-init

@@ -1,10 +1,9 @@
 -- `blank` meets its contract: after i turns the first i bytes are FF.
 -- Assumes nothing.
-use mathlib.Core.Path.{◌≡◌, refl, sym, ◌∙◌}
-use Prim.Native.Nat.{ℕ, ◌≤◌, ◌-◌}
-use native.Mathlib.Omega.{arith}
-use lib.ListN.{length, length-set}
-use Rattle.bits.proofs.Filling.{filled, fill_start, fill_turn, fill_end, build_replicate}
+use mathlib.Core.Path.{◌≡◌}
+use Prim.Native.Nat.{◌≤◌, ◌-◌}
+use lib.ListN.{length}
+use Rattle.bits.proofs.Filling.{filled}
 use Rattle.images.proofs.blank.Given as goal
 
 abbrev pub invariant-loop-i : goal.invariant-loop-i

@@ -1,7 +1,6 @@
 -- `finish_page` meets its contract: blank from the part on, with signature and version from OOB 14 on.
 -- Assumes nothing.
 use mathlib.Core.Path.{◌∙◌, ap}
-use borrow.Author.Rules.{rules}
 use borrow.Author.Tests.{eq-eqb, ne_eqb, lt-leb, le-leb}
 use Rattle.bits.specs.Bytes.{word_bytes}
 use Rattle.images.proofs.Paging.{page_finished}

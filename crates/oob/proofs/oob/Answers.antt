@@ -1,13 +1,10 @@
 -- `oob` meets its contract: bytes that are given lie in the image, and nothing is given beside a refusal.
 -- Assumes nothing.
 use mathlib.Core.Path.{refl, sym, ◌∙◌}
-use Prim.Native.Nat.{◌+◌, ◌*◌, ◌≤◌}
 use native.Mathlib.Nat.{add-sub_cancel_left}
 use native.Mathlib.Omega.{arith}
-use lib.ListN.{length}
 use Rattle.oob.specs.Oob.{oob_bytes, oob_place}
 use Rattle.oob.proofs.Extents.{given_inside}
-use borrow.Author.Rules.{rules}
 use Rattle.oob.proofs.oob.Goals as goal
 
 pub overflow_mul-at : goal.overflow_mul-at

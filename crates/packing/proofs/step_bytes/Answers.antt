@@ -1,7 +1,6 @@
 -- `step_bytes` meets its contract in each case of the step.
 -- Assumes nothing.
 use mathlib.Core.Path.{refl}
-use borrow.Author.Rules.{rules}
 use Rattle.packing.proofs.step_bytes.Goals as goal
 
 pub returns-in-Erase : goal.returns-in-Erase

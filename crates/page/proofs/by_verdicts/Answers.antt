@@ -1,9 +1,7 @@
 -- `by_verdicts` meets its contract: its tests are those of `by_verdicts`.
 -- Assumes nothing.
 use mathlib.Core.Path.{◌∙◌, sym}
-use borrow.Author.Tests.{not-true, not-false}
 use Rattle.page.specs.Pages.{by_verdicts}
-use borrow.Author.Rules.{rules}
 use Rattle.page.proofs.by_verdicts.Goals as goal
 
 pub returns-then-not-is_repairable : goal.returns-then-not-is_repairable

@@ -4,7 +4,6 @@ use native.Mathlib.Omega.{arith}
 use Prim.Native.Nat.{◌-◌}
 use lib.ListN.{length, drop, length-take, length-drop}
 use lib.Seq.{take_all}
-use borrow.Author.Rules.{rules}
 use Rattle.page.proofs.judge_halves.Goals as goal
 
 pub slice_bounds-judge_half-end : goal.slice_bounds-judge_half-end

@@ -4,7 +4,6 @@ use mathlib.Core.Path.{◌∙◌, sym}
 use borrow.Author.Tests.{eq-eqb, ne_eqb}
 use Rattle.spare.specs.Reading.{spare_answer}
 use Rattle.page.specs.Pages.{page_answer}
-use borrow.Author.Rules.{rules}
 use Rattle.page.proofs.judge_page.Goals as goal
 
 pub returns-then-bytes-ne-PAGE : goal.returns-then-bytes-ne-PAGE

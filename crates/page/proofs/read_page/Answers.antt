@@ -11,7 +11,6 @@ use Rattle.page.specs.declared.PageAnswer.{PageAnswer}
 use Rattle.page.specs.declared.PageAnswer.TheVariants.{Read, Refused}
 use Rattle.page.specs.Judging.{judged_by}
 use Rattle.page.specs.Pages.{data_by, data_after, page_answer}
-use borrow.Author.Rules.{rules}
 use Rattle.page.proofs.read_page.Goals as goal
 
 answered : (a : PageAnswer) → (judged_by a).answer ≡ a

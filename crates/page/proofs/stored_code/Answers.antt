@@ -1,7 +1,6 @@
 -- `stored_code` meets its contract: each half has its three bytes.
 -- Assumes nothing.
 use mathlib.Core.Path.{refl}
-use borrow.Author.Rules.{rules}
 use Rattle.page.proofs.stored_code.Goals as goal
 
 pub returns-in-First : goal.returns-in-First

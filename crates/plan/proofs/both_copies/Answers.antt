@@ -1,7 +1,6 @@
 -- `both_copies` meets its contract: the version after this one, and both blocks.
 -- Assumes nothing.
 use mathlib.Core.Path.{refl}
-use borrow.Author.Rules.{rules}
 use Rattle.plan.proofs.both_copies.Goals as goal
 
 pub returns : goal.returns

@@ -1,7 +1,6 @@
 -- `missing_work` meets its contract, as `missing_work` is written.
 -- Assumes nothing.
 use mathlib.Core.Path.{refl}
-use borrow.Author.Rules.{rules}
 use Rattle.plan.proofs.missing_work.Goals as goal
 
 pub returns-in-Refused : goal.returns-in-Refused

@@ -4,7 +4,6 @@ use mathlib.Core.List.{List, []}
 use mathlib.Core.Path.{◌≡◌, sym}
 use Prim.Native.Nat.{ℕ}
 use native.Mathlib.Omega.{arith}
-use borrow.Author.Rules.{rules}
 use Rattle.bbt.proofs.Parting.{chunk_past}
 use Rattle.bbt.specs.Images.{chunk}
 use Rattle.plan.proofs.Parts.{part_fits, part_updated, part_copied, part_anded}

@@ -2,11 +2,8 @@
 -- Assumes nothing.
 use mathlib.Core.Bool.{◌&&◌, and-true, and-false}
 use mathlib.Core.Path.{◌≡◌, refl, ◌∙◌, ap, ap₂, sym}
-use Prim.Native.Nat.{◌*◌, ◌-◌, ◌<◌, ◌≤◌}
+use Prim.Native.Nat.{◌*◌, ◌<◌}
 use native.Mathlib.Omega.{arith}
-use borrow.Author.Rules.{rules}
-use borrow.Author.Tests.{not-true, not-false}
-use lib.ListN.{take}
 use lib.Seq.{take_all}
 use Rattle.bbt.specs.Entries.{updated_bytes}
 use Rattle.bbt.specs.Pairs.{same}

@@ -1,20 +1,10 @@
 -- `new_table_equals_old` meets its contract: the parts before page p are kept or not, as `kept` says.
 -- Assumes nothing.
-use mathlib.Core.Bool.{◌&&◌, and-true, and-false}
-use mathlib.Core.Logic.{⊎_elim}
-use mathlib.Core.Path.{◌≡◌, refl, ◌∙◌, ap, ap₂, sym}
-use Prim.Native.Nat.{◌*◌, ◌-◌, ◌<◌, ◌≤◌}
-use native.Mathlib.Omega.{arith}
-use borrow.Author.Rules.{rules}
-use borrow.Author.Tests.{not-true, not-false}
+use mathlib.Core.Path.{◌≡◌}
+use Prim.Native.Nat.{◌*◌, ◌-◌, ◌≤◌}
 use lib.ListN.{take}
-use lib.Seq.{take_all}
-use Rattle.bbt.specs.Entries.{updated_bytes}
-use Rattle.bbt.specs.Pairs.{same}
 use Rattle.region.specs.Stored.{stored_parts}
 use Rattle.bitmap.specs.Made.{new_equals_old}
-use Rattle.chip.specs.Large.{pages_of}
-use Rattle.plan.proofs.NewEqualsOld.{equal_next}
 use Rattle.plan.proofs.new_table_equals_old.Given as goal
 
 abbrev pub invariant-loop-p : goal.invariant-loop-p

@@ -2,7 +2,6 @@
 -- Assumes nothing.
 use mathlib.Core.Path.{refl}
 use Rattle.bbt.specs.Plans.{next_version}
-use borrow.Author.Rules.{rules}
 use Rattle.plan.proofs.next_version.Goals as goal
 
 pub returns : goal.returns

@@ -2,7 +2,6 @@
 -- Assumes nothing.
 use mathlib.Core.Path.{refl, ◌∙◌, sym}
 use native.Mathlib.Omega.{arith}
-use borrow.Author.Rules.{rules}
 use Rattle.images.proofs.Paging.{put_finished}
 use Rattle.plan.proofs.Asking.{by_same}
 use Rattle.plan.proofs.Imaging.{refused_told, step_told}

@@ -1,7 +1,6 @@
 -- `page_case` meets its contract: its tests are those of `page_case`.
 -- Assumes nothing.
 use mathlib.Core.Path.{sym, ◌∙◌}
-use borrow.Author.Rules.{rules}
 use borrow.Author.Tests.{eq-eqb, ne_eqb}
 use Rattle.plan.specs.PageImages.{page_case}
 use Rattle.plan.proofs.page_case.Goals as goal

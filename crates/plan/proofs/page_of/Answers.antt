@@ -1,6 +1,5 @@
 -- `page_of` meets its contract: what was told of the plan decides, and without a failed step that is the first plan.
 -- Assumes nothing.
-use borrow.Author.Rules.{rules}
 use Rattle.plan.proofs.Asking.{by_same}
 use Rattle.plan.proofs.Imaging.{first_told, after_told}
 use Rattle.plan.proofs.page_of.Goals as goal

@@ -1,7 +1,6 @@
 -- `plan_after` meets its contract: no block has failed under a work's first plan, so what was made of it is what the rules make.
 -- Assumes nothing.
 use mathlib.Core.Path.{◌∙◌, ap}
-use borrow.Author.Rules.{rules}
 use Rattle.bbt.specs.declared.PlanAnswer.{PlanAnswer}
 use Rattle.retire.proofs.Failing.{retires_by_rules}
 use Rattle.retire.specs.Retiring.{all_retired}

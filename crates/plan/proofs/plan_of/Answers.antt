@@ -1,7 +1,6 @@
 -- `plan_of` meets its contract: each work is planned as `work_answer` has it.
 -- Assumes nothing.
 use mathlib.Core.Path.{refl, subst}
-use borrow.Author.Rules.{rules}
 use lib.ListN.{length}
 use Rattle.bbt.specs.Plans.{job_version, anded}
 use Rattle.plan.specs.Works.{work_answer, Sourced}

@@ -1,7 +1,6 @@
 -- `recovery_plan` meets its contract: the pair's case gives the work, and the work its plan, at once where no step has failed.
 -- Assumes nothing.
 use mathlib.Core.Path.{◌∙◌, sym}
-use borrow.Author.Rules.{rules}
 use Rattle.bbt.specs.Plans.{for_recovery}
 use Rattle.plan.proofs.Answering.{answer_out, answer_work, answer_first, answer_sourced}
 use Rattle.plan.proofs.recovery_plan.Goals as goal

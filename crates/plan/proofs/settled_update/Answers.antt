@@ -1,7 +1,6 @@
 -- `settled_update` meets its contract: its test is that of `update_from`.
 -- Assumes nothing.
 use mathlib.Core.Path.{refl, ◌∙◌, sym}
-use borrow.Author.Rules.{rules}
 use Rattle.bbt.specs.Plans.{job_version, update_from, updated}
 use Rattle.bitmap.specs.Made.{new_equals_old}
 use Rattle.plan.proofs.settled_update.Goals as goal

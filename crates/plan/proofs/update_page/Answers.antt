@@ -1,7 +1,6 @@
 -- `update_page` meets its contract: the pair's case gives the work, and the work the image of its step.
 -- Assumes nothing.
 use mathlib.Core.Path.{◌∙◌, sym}
-use borrow.Author.Rules.{rules}
 use Rattle.bbt.specs.Plans.{for_update}
 use Rattle.plan.proofs.Asking.{page_out, page_sourced, page_work}
 use Rattle.plan.proofs.update_page.Goals as goal

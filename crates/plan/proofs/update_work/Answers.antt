@@ -1,7 +1,6 @@
 -- `update_work` meets its contract, as `update_work` is written.
 -- Assumes nothing.
 use mathlib.Core.Path.{refl}
-use borrow.Author.Rules.{rules}
 use Rattle.plan.proofs.update_work.Goals as goal
 
 pub returns-in-Refused : goal.returns-in-Refused

@@ -1,7 +1,6 @@
 -- `image_code` meets its contract, as `image_code_by` is written.
 -- Assumes nothing.
 use mathlib.Core.Path.{refl}
-use borrow.Author.Rules.{rules}
 use Rattle.reamsickle.proofs.image_code.Goals as goal
 
 pub returns-in-Made : goal.returns-in-Made

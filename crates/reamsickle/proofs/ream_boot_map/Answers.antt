@@ -3,7 +3,6 @@
 use mathlib.Core.Path.{sym, ap, ◌∙◌}
 use native.Mathlib.Nat.{add-zero}
 use Rattle.reamsickle.specs.Boundary.{map_code_by, map_code}
-use borrow.Author.Rules.{rules}
 use Rattle.reamsickle.proofs.ream_boot_map.Goals as goal
 
 pub returns-in-Refused : goal.returns-in-Refused

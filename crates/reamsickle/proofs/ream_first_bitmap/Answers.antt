@@ -2,7 +2,6 @@
 -- Assumes nothing.
 use mathlib.Core.Path.{refl, sym, ◌∙◌}
 use Rattle.reamsickle.specs.LargeBoundary.{first_code}
-use borrow.Author.Rules.{rules}
 use Rattle.reamsickle.proofs.ream_first_bitmap.Goals as goal
 
 pub returns-in-Made : goal.returns-in-Made

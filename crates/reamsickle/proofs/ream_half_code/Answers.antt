@@ -4,7 +4,6 @@ use mathlib.Core.Path.{refl, ◌∙◌}
 use borrow.Author.Tests.{eq-eqb, ne_eqb}
 use Rattle.bits.proofs.Filling.{copied_same}
 use Rattle.reamsickle.specs.Boundary.{is_half, half_code, half_code_after}
-use borrow.Author.Rules.{rules}
 use Rattle.reamsickle.proofs.ream_half_code.Goals as goal
 
 pub returns-then-half-ne-HALF : goal.returns-then-half-ne-HALF

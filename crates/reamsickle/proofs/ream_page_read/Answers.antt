@@ -6,7 +6,6 @@ use borrow.Author.Tests.{eq-eqb, ne_eqb}
 use lib.ListN.{length}
 use Rattle.bits.proofs.Filling.{copied_same}
 use Rattle.reamsickle.specs.Boundary.{page_code, page_data_after, page_fields_after}
-use borrow.Author.Rules.{rules}
 use Rattle.reamsickle.proofs.ream_page_read.Goals as goal
 
 pub returns-then-fields-ne-PAGE_FIELDS : goal.returns-then-fields-ne-PAGE_FIELDS

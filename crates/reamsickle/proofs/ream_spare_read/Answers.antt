@@ -6,7 +6,6 @@ use borrow.Author.Tests.{eq-eqb, ne_eqb}
 use lib.ListN.{length}
 use Rattle.bits.proofs.Filling.{copied_same}
 use Rattle.reamsickle.specs.Boundary.{spare_code, spare_fields_after}
-use borrow.Author.Rules.{rules}
 use Rattle.reamsickle.proofs.ream_spare_read.Goals as goal
 
 pub returns-then-fields-ne-SPARE_FIELDS : goal.returns-then-fields-ne-SPARE_FIELDS

@@ -2,7 +2,6 @@
 -- Assumes nothing.
 use mathlib.Core.Path.{sym, ap, ◌∙◌}
 use Rattle.reamsickle.specs.Boundary.{write_code_by, write_code}
-use borrow.Author.Rules.{rules}
 use Rattle.reamsickle.proofs.ream_spare_write.Goals as goal
 
 pub returns-in-Written : goal.returns-in-Written

@@ -1,7 +1,6 @@
 -- `ream_table_page` meets its contract: the answer of `table_page` as a number.
 -- Assumes nothing.
 use mathlib.Core.Path.{◌∙◌, ap}
-use borrow.Author.Rules.{rules}
 use Rattle.reamsickle.specs.LargeBoundary.{image_code_by, table_page_code}
 use Rattle.reamsickle.proofs.ream_table_page.Goals as goal
 

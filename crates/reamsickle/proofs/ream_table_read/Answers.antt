@@ -3,7 +3,6 @@
 use mathlib.Core.Path.{sym, ◌∙◌}
 use native.Mathlib.Nat.{add-zero}
 use Rattle.reamsickle.specs.LargeBoundary.{table_code}
-use borrow.Author.Rules.{rules}
 use Rattle.reamsickle.proofs.ream_table_read.Goals as goal
 
 pub returns-in-Refused : goal.returns-in-Refused

@@ -1,7 +1,6 @@
 -- `ream_update_page` meets its contract: the answer of `update_page` as a number.
 -- Assumes nothing.
 use mathlib.Core.Path.{◌∙◌, ap}
-use borrow.Author.Rules.{rules}
 use Rattle.reamsickle.specs.LargeBoundary.{image_code_by, image_code}
 use Rattle.reamsickle.proofs.ream_update_page.Goals as goal
 

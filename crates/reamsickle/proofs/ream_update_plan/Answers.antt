@@ -6,7 +6,6 @@ use Rattle.bbt.specs.Plans.{for_update}
 use Rattle.bbt.specs.declared.PlanAnswer.{PlanAnswer}
 use Rattle.reamsickle.specs.LargeBoundary.{plan_code, steps_after, room_of}
 use Rattle.reamsickle.proofs.Room.{plan_room}
-use borrow.Author.Rules.{rules}
 use Rattle.reamsickle.proofs.ream_update_plan.Goals as goal
 
 pub returns : goal.returns

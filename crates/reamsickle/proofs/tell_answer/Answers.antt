@@ -7,7 +7,6 @@ use native.Mathlib.Omega.{arith}
 use Rattle.bbt.specs.declared.PlanAnswer.{PlanAnswer}
 use Rattle.packing.proofs.Steps.{into_room}
 use Rattle.reamsickle.specs.LargeBoundary.{room_of}
-use borrow.Author.Rules.{rules}
 use Rattle.reamsickle.proofs.tell_answer.Goals as goal
 
 pub returns-in-Refused : goal.returns-in-Refused

@@ -3,7 +3,6 @@
 use mathlib.Core.Path.{sym, ◌∙◌}
 use borrow.Author.Tests.{eq-eqb, ne_eqb}
 use Rattle.reamsickle.specs.LargeBoundary.{plan_code, steps_after}
-use borrow.Author.Rules.{rules}
 use Rattle.reamsickle.proofs.tell_plan.Goals as goal
 
 pub returns-then-steps-eq-STEPS : goal.returns-then-steps-eq-STEPS

@@ -1,6 +1,5 @@
 -- `also` meets its contract, case by case as `also_located` is written.
 -- Assumes nothing.
-use borrow.Author.Rules.{rules}
 use Rattle.region.proofs.also.Goals as goal
 
 pub returns-in-Nowhere : goal.returns-in-Nowhere

@@ -5,7 +5,6 @@ use mathlib.Core.Path.{sym}
 use native.Mathlib.Omega.{arith}
 use borrow.Kind.Array.{e_bool, good_length}
 use lib.Seq.{set_out}
-use borrow.Author.Rules.{rules}
 use Rattle.region.proofs.avoiding.Goals as goal
 
 pub returns-else-i-lt-REGION_PLACES : goal.returns-else-i-lt-REGION_PLACES

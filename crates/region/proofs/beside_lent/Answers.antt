@@ -1,7 +1,6 @@
 -- `beside_lent` meets its contract, as `beside_lent` is written.
 -- Assumes nothing.
 use mathlib.Core.Path.{refl}
-use borrow.Author.Rules.{rules}
 use Rattle.region.proofs.beside_lent.Goals as goal
 
 pub returns-in-Bitmap : goal.returns-in-Bitmap

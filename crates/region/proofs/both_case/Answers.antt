@@ -14,7 +14,6 @@ use Rattle.region.specs.Stored.{stored_parts}
 use Rattle.chip.specs.Large.{pages_of}
 use Rattle.bbt.specs.Pairs.{same, differing, difference, both_case, compared}
 use Rattle.bbt.specs.Told.{told_case}
-use borrow.Author.Rules.{rules}
 use Rattle.region.proofs.both_case.Goals as goal
 
 apart : (d : ℤ) (equal : Bool) (p m : ℕ) → (of_z w32 d ≡ 0 → ⊥) → (of_z w32 d ≡ 4294967168 → ⊥) → both_case d equal p m ≡ differing d p m

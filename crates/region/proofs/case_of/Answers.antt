@@ -5,7 +5,6 @@ use Rattle.bbt.proofs.Raw.{chip_valid}
 use Rattle.chip.proofs.Numbers.{made_chip}
 use Rattle.chip.specs.Large.{chip_of}
 use Rattle.region.specs.Cases.{lent_case}
-use borrow.Author.Rules.{rules}
 use Rattle.region.proofs.case_of.Goals as goal
 
 pub case_on-requires : goal.case_on-requires

@@ -1,11 +1,10 @@
 -- `case_on` meets its contract: its tests are those of `case_on`.
 -- Assumes nothing.
 use mathlib.Core.Path.{◌∙◌, ap, sym}
-use borrow.Author.Tests.{eq-eqb, ne_eqb, not-true, not-false}
+use borrow.Author.Tests.{eq-eqb, ne_eqb}
 use Rattle.bbt.specs.Lent.{region_lent}
 use Rattle.region.specs.declared.LentCase.TheVariants.{Case}
 use Rattle.region.specs.Cases.{case_on}
-use borrow.Author.Rules.{rules}
 use Rattle.region.proofs.case_on.Goals as goal
 
 pub returns-then-image-region_bytes : goal.returns-then-image-region_bytes

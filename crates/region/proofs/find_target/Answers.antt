@@ -6,7 +6,6 @@ use Rattle.bbt.proofs.Raw.{chip_valid}
 use Rattle.chip.proofs.Numbers.{made_chip}
 use Rattle.chip.specs.Large.{chip_of}
 use Rattle.region.specs.Targets.{lent_target}
-use borrow.Author.Rules.{rules}
 use Rattle.region.proofs.find_target.Goals as goal
 
 pub target_on-requires : goal.target_on-requires

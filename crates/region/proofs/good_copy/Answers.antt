@@ -1,11 +1,9 @@
 -- `good_copy` meets its contract: the pages before p all match, and one that does not match spoils the block.
 -- Assumes nothing.
-use mathlib.Core.Bool.{true, ◌&&◌}
+use mathlib.Core.Bool.{◌&&◌}
 use mathlib.Core.Path.{◌≡◌, refl, ◌∙◌, ap, ap₂, sym}
-use Prim.Native.Nat.{ℕ, ◌*◌, ◌≤◌, ◌-◌}
+use Prim.Native.Nat.{ℕ, ◌*◌}
 use native.Mathlib.Omega.{arith}
-use borrow.Author.Rules.{rules}
-use borrow.Author.Tests.{not-true, not-false}
 use Rattle.bbt.specs.Pages.{all}
 use Rattle.bbt.proofs.Searches.{all_next, all_not}
 use Rattle.chip.specs.Large.{pages_of}

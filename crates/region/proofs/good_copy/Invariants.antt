@@ -1,15 +1,10 @@
 -- `good_copy` meets its contract: the pages before p all match, and one that does not match spoils the block.
 -- Assumes nothing.
-use mathlib.Core.Bool.{true, ◌&&◌}
-use mathlib.Core.Path.{◌≡◌, refl, ◌∙◌, ap, ap₂, sym}
-use Prim.Native.Nat.{ℕ, ◌*◌, ◌≤◌, ◌-◌}
-use native.Mathlib.Omega.{arith}
-use borrow.Author.Rules.{rules}
-use borrow.Author.Tests.{not-true, not-false}
+use mathlib.Core.Bool.{true}
+use mathlib.Core.Path.{◌≡◌}
+use Prim.Native.Nat.{◌≤◌, ◌-◌}
 use Rattle.bbt.specs.Pages.{all}
-use Rattle.bbt.proofs.Searches.{all_next, all_not}
-use Rattle.chip.specs.Large.{pages_of}
-use Rattle.region.proofs.Bytes.{page_inside, first_inside, matches, good_by}
+use Rattle.region.proofs.Bytes.{matches}
 use Rattle.region.proofs.good_copy.Given as goal
 
 abbrev pub invariant-loop-p : goal.invariant-loop-p

@@ -3,8 +3,8 @@
 -- the highest below a number that is not 0: the one before it, if that passes, else one below
 use mathlib.Core.Bool.{Bool, cond}
 use mathlib.Core.Option.{some}
-use mathlib.Core.Path.{◌≡◌, refl, ◌∙◌, ap, sym}
-use Prim.Native.Nat.{ℕ, ◌+◌, ◌≤◌, ◌-◌, ◌<◌}
+use mathlib.Core.Path.{◌≡◌, ◌∙◌, ap, sym}
+use Prim.Native.Nat.{ℕ, ◌+◌, ◌-◌, ◌<◌}
 use native.Mathlib.Omega.{arith}
 use Rattle.bbt.specs.Copies.{highest}
 use Rattle.bbt.specs.Pages.{seen}

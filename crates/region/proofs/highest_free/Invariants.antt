@@ -1,15 +1,11 @@
 -- `highest_free` meets its contract: no block from `above` on will do, so the highest that does is one below.
 -- Assumes nothing.
 -- the highest below a number that is not 0: the one before it, if that passes, else one below
-use mathlib.Core.Bool.{Bool, cond}
-use mathlib.Core.Option.{some}
-use mathlib.Core.Path.{◌≡◌, refl, ◌∙◌, ap, sym}
-use Prim.Native.Nat.{ℕ, ◌+◌, ◌≤◌, ◌-◌, ◌<◌}
-use native.Mathlib.Omega.{arith}
+use mathlib.Core.Path.{◌≡◌}
+use Prim.Native.Nat.{◌≤◌}
 use Rattle.bbt.specs.Copies.{highest}
 use Rattle.bbt.specs.Pages.{seen}
-use Rattle.bbt.proofs.Searches.{highest_next}
-use Rattle.region.specs.Targets.{is_free_by, told_target, target_by}
+use Rattle.region.specs.Targets.{is_free_by}
 use Rattle.region.proofs.highest_free.Given as goal
 
 abbrev pub invariant-loop-above : goal.invariant-loop-above

@@ -2,7 +2,6 @@
 -- Assumes nothing.
 use mathlib.Core.Bool.{not}
 use mathlib.Core.Path.{ap}
-use borrow.Author.Rules.{rules}
 use Rattle.region.proofs.is_free.Goals as goal
 
 pub returns-then-avoid-b : goal.returns-then-avoid-b

@@ -3,7 +3,6 @@
 use mathlib.Core.Path.{◌∙◌, ap, sym}
 use Rattle.bbt.specs.Pages.{kind_of_word}
 use Rattle.region.proofs.Bytes.{page_kind}
-use borrow.Author.Rules.{rules}
 use Rattle.region.proofs.kind_at.Goals as goal
 
 pub returns : goal.returns

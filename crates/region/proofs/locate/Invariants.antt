@@ -1,18 +1,12 @@
 -- `locate` meets its contract: after b blocks there is located, of each kind, what `find` finds among them.
 -- Assumes nothing.
-use mathlib.Core.Path.{◌≡◌, refl, ◌∙◌, ap, ap₂, sym}
-use Prim.Native.Nat.{ℕ, ◌≤◌, ◌-◌}
-use native.Mathlib.Omega.{arith}
+use mathlib.Core.Path.{◌≡◌}
+use Prim.Native.Nat.{◌≤◌, ◌-◌}
 use Rattle.bbt.specs.Copies.{find, good}
 use Rattle.bbt.specs.Pages.{seen}
 use Rattle.bbt.specs.declared.Kind.TheVariants.{Primary, Mirror}
 use Rattle.chip.specs.Large.{pages_of}
-use Rattle.region.specs.declared.Copies.{Copies}
-use Rattle.region.specs.declared.Located.{Located}
 use Rattle.region.specs.Cases.{located_by}
-use Rattle.region.proofs.Locating.{located_next}
-use Rattle.region.proofs.Stored.{primary_signed, mirror_signed}
-use borrow.Author.Rules.{rules}
 use Rattle.region.proofs.locate.Given as goal
 
 abbrev pub invariant-loop-b : goal.invariant-loop-b

@@ -9,7 +9,6 @@ use Rattle.bbt.specs.Pages.{same_kind, kind_of, kind_word, page_bytes}
 use Rattle.bbt.proofs.Raw.{page_byte}
 use Rattle.region.specs.Cases.{page_matches}
 use Rattle.region.proofs.Bytes.{signature_same}
-use borrow.Author.Rules.{rules}
 use Rattle.region.proofs.page_is.Goals as goal
 
 pub returns-then-status-i-ne0 : goal.returns-then-status-i-ne0

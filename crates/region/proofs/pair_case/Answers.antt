@@ -13,7 +13,6 @@ use native.Mathlib.Omega.{arith}
 use Rattle.bbt.proofs.Views.{found_copy}
 use Rattle.region.proofs.Stored.{table_raw}
 use mathlib.Core.Path.{◌≡◌, refl, ◌∙◌, ap, sym}
-use borrow.Author.Rules.{rules}
 use Rattle.region.proofs.pair_case.Goals as goal
 
 abbrev found_of : Located → Found

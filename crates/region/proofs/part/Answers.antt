@@ -12,7 +12,6 @@ use lib.Dec.{leb}
 use lib.ListN.{length, take, drop}
 use Rattle.chip.specs.Large.{pages_of}
 use Rattle.region.specs.Parts.{part_of}
-use borrow.Author.Rules.{rules}
 use Rattle.region.proofs.part.Goals as goal
 
 abbrev bytes_at : List ℕ → ℕ → ℕ → List ℕ

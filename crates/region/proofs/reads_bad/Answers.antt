@@ -8,7 +8,7 @@ use Prim.Native.Nat.{ℕ, ◌+◌, ◌*◌}
 use native.Mathlib.Omega.{arith}
 use borrow.Author.Tests.{eq-eqb, ne_eqb}
 use lib.Dec.{eqb}
-use lib.ListN.{length, get_or}
+use lib.ListN.{get_or}
 use Rattle.bbt.specs.Copies.{reads_bad}
 use Rattle.bbt.specs.Pages.{same_kind, kind_of, kind_word, page_status, page_bytes, bad_mark, zero_oob, bad_page, seen}
 use Rattle.chip.specs.Large.{pages_of}
@@ -17,9 +17,8 @@ use Rattle.bbt.specs.declared.Kind.{Kind}
 use Rattle.bbt.specs.declared.Kind.TheVariants.{Neither}
 use Rattle.bbt.proofs.Raw.{page_byte}
 use Rattle.bbt.proofs.Searches.{all_not}
-use Rattle.region.proofs.Bytes.{FirstInside, first_inside, signature_same}
+use Rattle.region.proofs.Bytes.{first_inside, signature_same}
 use Rattle.region.proofs.Stored.{reads_bad_raw}
-use borrow.Author.Rules.{rules}
 use Rattle.region.proofs.reads_bad.Goals as goal
 use Rattle.region.proofs.reads_bad.Goals.{then-status-first-eq0+else-signature, else-status-first-eq0}
 

@@ -2,11 +2,8 @@
 -- Assumes nothing.
 use mathlib.Core.Bool.{and-true, and-false, ◌&&◌}
 use mathlib.Core.Path.{◌≡◌, refl, ◌∙◌, ap, ap₂, sym}
-use Prim.Native.Nat.{ℕ, ◌≤◌, ◌-◌, ◌<◌}
+use Prim.Native.Nat.{ℕ, ◌<◌}
 use native.Mathlib.Omega.{arith}
-use borrow.Author.Rules.{rules}
-use borrow.Author.Tests.{not-true, not-false}
-use lib.ListN.{length}
 use Rattle.bbt.specs.Pairs.{same}
 use Rattle.region.specs.Stored.{stored_parts}
 use Rattle.chip.specs.Large.{pages_of}

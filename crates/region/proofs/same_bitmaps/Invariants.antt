@@ -1,17 +1,10 @@
 -- `same_bitmaps` meets its contract: the parts before page p are equal or not, as `equal` says.
 -- Assumes nothing.
-use mathlib.Core.Bool.{and-true, and-false, ◌&&◌}
-use mathlib.Core.Logic.{⊎_elim}
-use mathlib.Core.Path.{◌≡◌, refl, ◌∙◌, ap, ap₂, sym}
-use Prim.Native.Nat.{ℕ, ◌≤◌, ◌-◌, ◌<◌}
-use native.Mathlib.Omega.{arith}
-use borrow.Author.Rules.{rules}
-use borrow.Author.Tests.{not-true, not-false}
+use mathlib.Core.Path.{◌≡◌}
+use Prim.Native.Nat.{◌≤◌, ◌-◌}
 use lib.ListN.{length}
 use Rattle.bbt.specs.Pairs.{same}
 use Rattle.region.specs.Stored.{stored_parts}
-use Rattle.chip.specs.Large.{pages_of}
-use Rattle.region.proofs.Bitmaps.{lengths_next, same_next}
 use Rattle.region.proofs.same_bitmaps.Given as goal
 
 abbrev pub invariant-loop-p : goal.invariant-loop-p

@@ -1,15 +1,11 @@
 -- `statuses_right` meets its contract: the status bytes before i are 0 or 1, and one that is not spoils them.
 -- Assumes nothing.
-use mathlib.Core.Bool.{true, ◌&&◌}
-use mathlib.Core.Path.{◌≡◌, refl, ◌∙◌, ap, ap₂, sym}
-use Prim.Native.Nat.{ℕ, ◌≤◌, ◌-◌}
-use native.Mathlib.Omega.{arith}
-use borrow.Author.Tests.{lt-ltb, le-ltb}
+use mathlib.Core.Bool.{true}
+use mathlib.Core.Path.{◌≡◌}
+use Prim.Native.Nat.{◌≤◌, ◌-◌}
 use lib.Dec.{ltb}
 use lib.ListN.{length, get_or}
 use Rattle.bbt.specs.Pages.{all}
-use Rattle.bbt.specs.Lent.{statuses_right}
-use Rattle.bbt.proofs.Searches.{all_next, all_not}
 use Rattle.region.proofs.statuses_right.Given as goal
 
 abbrev pub invariant-loop-i : goal.invariant-loop-i

@@ -1,10 +1,9 @@
 -- `target_on` meets its contract: its tests are those of `target_on`.
 -- Assumes nothing.
 use mathlib.Core.Path.{◌∙◌, sym}
-use borrow.Author.Tests.{eq-eqb, ne_eqb, not-true, not-false}
+use borrow.Author.Tests.{eq-eqb, ne_eqb}
 use Rattle.bbt.specs.Lent.{region_lent}
 use Rattle.region.specs.Targets.{target_on}
-use borrow.Author.Rules.{rules}
 use Rattle.region.proofs.target_on.Goals as goal
 
 pub returns-then-image-region_bytes : goal.returns-then-image-region_bytes

@@ -7,7 +7,6 @@ use native.Mathlib.Omega.{arith}
 use lib.ListN.{get_or, get_or-eq_default}
 use Rattle.bbt.proofs.Raw.{page_byte}
 use Rattle.chip.specs.Large.{pages_of}
-use borrow.Author.Rules.{rules}
 use Rattle.region.proofs.version.Goals as goal
 
 pub overflow_mul-at : goal.overflow_mul-at

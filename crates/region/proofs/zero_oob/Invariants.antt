@@ -1,16 +1,11 @@
 -- `zero_oob` meets its contract: the OOB bytes before j are 0, and one that is not spoils them.
 -- Assumes nothing.
-use mathlib.Core.Bool.{Bool, true, ◌&&◌}
-use mathlib.Core.List.{List}
-use mathlib.Core.Path.{◌≡◌, refl, ◌∙◌, ap, ap₂, sym}
-use Prim.Native.Nat.{ℕ, ◌+◌, ◌*◌, ◌<◌, ◌≤◌, ◌-◌}
-use native.Mathlib.Omega.{arith}
-use borrow.Author.Tests.{eq-eqb, ne_eqb}
+use mathlib.Core.Bool.{true}
+use mathlib.Core.Path.{◌≡◌}
+use Prim.Native.Nat.{◌+◌, ◌≤◌, ◌-◌}
 use lib.Dec.{eqb}
 use lib.ListN.{get_or}
-use Rattle.bbt.specs.Pages.{all, page_bytes, zero_oob}
-use Rattle.bbt.proofs.Raw.{page_byte}
-use Rattle.bbt.proofs.Searches.{all_next, all_not}
+use Rattle.bbt.specs.Pages.{all, page_bytes}
 use Rattle.region.proofs.zero_oob.Given as goal
 
 abbrev pub invariant-loop-j : goal.invariant-loop-j

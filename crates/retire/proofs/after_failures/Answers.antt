@@ -1,7 +1,6 @@
 -- `after_failures` meets its contract: a refusal is passed on, and a plan is what `after_steps` makes of it.
 -- Assumes nothing.
 use Rattle.retire.specs.Retiring.{all_retired}
-use borrow.Author.Rules.{rules}
 use Rattle.retire.proofs.after_failures.Goals as goal
 
 pub returns-in-Refused : goal.returns-in-Refused

@@ -1,12 +1,10 @@
 -- `after_steps` meets its contract. The loop's invariant: the steps that are left, under the plan and beside the flags as they stand, make of it
 -- what all of them make of the first. The measure is how many are left.
 -- Assumes nothing.
-use mathlib.Core.Bool.{false}
-use mathlib.Core.Path.{◌≡◌, refl, sym, ◌∙◌}
-use Prim.Native.Nat.{◌<◌, ◌≤◌, ◌-◌}
+use mathlib.Core.Path.{sym, ◌∙◌}
+use Prim.Native.Nat.{◌<◌}
 use native.Mathlib.Omega.{arith}
-use lib.ListN.{length, drop, replicate}
-use Rattle.retire.specs.Retiring.{steps_retired}
+use lib.ListN.{length}
 use Rattle.retire.proofs.Telling.{next_step, none_left}
 use borrow.Author.Rules.{rules}
 use Rattle.retire.proofs.after_steps.Goals as goal

@@ -2,13 +2,10 @@
 -- what all of them make of the first. The measure is how many are left.
 -- Assumes nothing.
 use mathlib.Core.Bool.{false}
-use mathlib.Core.Path.{◌≡◌, refl, sym, ◌∙◌}
-use Prim.Native.Nat.{◌<◌, ◌≤◌, ◌-◌}
-use native.Mathlib.Omega.{arith}
+use mathlib.Core.Path.{◌≡◌}
+use Prim.Native.Nat.{◌≤◌, ◌-◌}
 use lib.ListN.{length, drop, replicate}
 use Rattle.retire.specs.Retiring.{steps_retired}
-use Rattle.retire.proofs.Telling.{next_step, none_left}
-use borrow.Author.Rules.{rules}
 use Rattle.retire.proofs.after_steps.Given as goal
 
 abbrev pub invariant-loop-i : goal.invariant-loop-i

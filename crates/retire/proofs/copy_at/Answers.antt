@@ -1,7 +1,6 @@
 -- `copy_at` meets its contract, as `copy_at` is written.
 -- Assumes nothing.
 use mathlib.Core.Path.{refl}
-use borrow.Author.Rules.{rules}
 use borrow.Author.Tests.{eq-eqb, ne_eqb}
 use Rattle.retire.proofs.copy_at.Goals as goal
 

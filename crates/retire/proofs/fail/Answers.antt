@@ -2,7 +2,6 @@
 -- Assumes nothing.
 use mathlib.Core.Path.{sym, ap, ◌∙◌}
 use Rattle.retire.specs.Retiring.{step_retired}
-use borrow.Author.Rules.{rules}
 use Rattle.retire.proofs.fail.Goals as goal
 
 pub returns-in-Erase : goal.returns-in-Erase

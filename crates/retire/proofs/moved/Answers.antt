@@ -1,7 +1,6 @@
 -- `moved` meets its contract, as `moved_shape` is written.
 -- Assumes nothing.
 use mathlib.Core.Path.{refl}
-use borrow.Author.Rules.{rules}
 use borrow.Author.Tests.{eq-eqb, ne_eqb}
 use Rattle.retire.proofs.moved.Goals as goal
 

@@ -3,7 +3,6 @@
 use mathlib.Core.Path.{sym, ◌∙◌}
 use Rattle.region.specs.declared.TargetAnswer.TheVariants.{Found, Missing, Refused}
 use Rattle.retire.proofs.Telling.{as-told}
-use borrow.Author.Rules.{rules}
 use Rattle.retire.proofs.retire.Goals as goal
 
 pub returns-in-Refused : goal.returns-in-Refused

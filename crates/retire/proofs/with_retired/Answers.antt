@@ -1,6 +1,5 @@
 -- `with_retired` meets its contract, as `also_retired` is written.
 -- Assumes nothing.
-use borrow.Author.Rules.{rules}
 use Rattle.retire.proofs.with_retired.Goals as goal
 
 pub returns-in-Block : goal.returns-in-Block

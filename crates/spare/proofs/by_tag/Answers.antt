@@ -5,7 +5,6 @@ use native.Mathlib.Omega.{arith}
 use borrow.Author.Tests.{eq-eqb, ne_eqb}
 use Rattle.hamming.specs.Word.{decoded}
 use Rattle.spare.specs.Reading.{magic_of, by_words}
-use borrow.Author.Rules.{rules}
 use Rattle.spare.proofs.by_tag.Goals as goal
 
 pub returns-then-count-ne-MAGIC : goal.returns-then-count-ne-MAGIC

@@ -1,7 +1,6 @@
 -- `fields_by` meets its contract: it puts together what is known.
 -- Assumes nothing.
 use mathlib.Core.Path.{refl}
-use borrow.Author.Rules.{rules}
 use Rattle.spare.proofs.fields_by.Goals as goal
 
 pub returns : goal.returns

@@ -7,7 +7,6 @@ use lib.ListN.{length, drop, length-take, length-drop}
 use lib.Seq.{take_all}
 use Rattle.bits.proofs.Filling.{copied_same}
 use Rattle.spare.specs.Writing.{spare_of}
-use borrow.Author.Rules.{rules}
 use Rattle.spare.proofs.fill_spare.Goals as goal
 
 pub slice_bounds-code_of-end : goal.slice_bounds-code_of-end

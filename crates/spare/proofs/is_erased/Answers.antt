@@ -3,11 +3,11 @@
 -- a test of two lists, byte by byte, that looks at the first alone
 use mathlib.Core.Bool.{Bool}
 use mathlib.Core.List.{List}
-use mathlib.Core.Path.{◌≡◌, refl}
-use Prim.Native.Nat.{ℕ, ◌≤◌, ◌-◌}
+use mathlib.Core.Path.{refl}
+use Prim.Native.Nat.{ℕ}
 use native.Mathlib.Omega.{arith}
 use lib.Dec.{eqb}
-use lib.ListN.{get_or, take}
+use lib.ListN.{get_or}
 use Rattle.bits.proofs.Gathering.{gather_turn, gather_end}
 use Rattle.spare.specs.Reading.{is_erased}
 use Rattle.spare.proofs.is_erased.Goals as goal

@@ -1,14 +1,10 @@
 -- `is_erased` meets its contract: after i turns what is gathered is 0 where the first i bytes are FF.
 -- Assumes nothing.
 -- a test of two lists, byte by byte, that looks at the first alone
-use mathlib.Core.Bool.{Bool}
-use mathlib.Core.List.{List}
-use mathlib.Core.Path.{◌≡◌, refl}
-use Prim.Native.Nat.{ℕ, ◌≤◌, ◌-◌}
-use native.Mathlib.Omega.{arith}
+use mathlib.Core.Path.{◌≡◌}
+use Prim.Native.Nat.{◌≤◌, ◌-◌}
 use lib.Dec.{eqb}
-use lib.ListN.{get_or, take}
-use Rattle.bits.proofs.Gathering.{gather_turn, gather_end}
+use lib.ListN.{take}
 use Rattle.spare.specs.Reading.{is_erased}
 use Rattle.spare.proofs.is_erased.Given as goal
 

@@ -3,7 +3,6 @@
 use mathlib.Core.Path.{◌∙◌, ap, sym}
 use native.Mathlib.Omega.{arith}
 use Rattle.spare.proofs.Tagging.{is_itself, in_nearest, in_byte}
-use borrow.Author.Rules.{rules}
 use Rattle.spare.proofs.is_tag.Goals as goal
 
 pub returns-then-tag-gt255 : goal.returns-then-tag-gt255

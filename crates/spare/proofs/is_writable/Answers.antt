@@ -5,7 +5,6 @@ use Prim.Native.Nat.{◌^◌}
 use native.Mathlib.Omega.{arith}
 use borrow.Author.Tests.{lt-ltb, le-ltb}
 use Rattle.spare.specs.Writing.{is_writable}
-use borrow.Author.Rules.{rules}
 use Rattle.spare.proofs.is_writable.Goals as goal
 
 pub returns-then-path-lt-PATHS : goal.returns-then-path-lt-PATHS

@@ -1,12 +1,12 @@
 -- `nearest_tag` meets its contract: no tag before i is near the byte.
 -- Assumes nothing.
 use mathlib.Core.Path.{◌≡◌, refl}
-use Prim.Native.Nat.{◌<◌, ◌≤◌, ◌-◌}
+use Prim.Native.Nat.{◌<◌, ◌≤◌}
 use native.Mathlib.Numerals.{add-one}
 use native.Mathlib.Omega.{arith}
 use borrow.Author.Tests.{le-leb, lt-leb}
 use borrow.Author.Rules.{rules}
-use lib.ListN.{drop, get_or}
+use lib.ListN.{get_or}
 use Rattle.spare.specs.Tags.{tags, distance, nearest}
 use Rattle.spare.proofs.Tagging.{nearest_next}
 use Rattle.spare.proofs.nearest_tag.Goals as goal

@@ -1,14 +1,9 @@
 -- `nearest_tag` meets its contract: no tag before i is near the byte.
 -- Assumes nothing.
-use mathlib.Core.Path.{◌≡◌, refl}
-use Prim.Native.Nat.{◌<◌, ◌≤◌, ◌-◌}
-use native.Mathlib.Numerals.{add-one}
-use native.Mathlib.Omega.{arith}
-use borrow.Author.Tests.{le-leb, lt-leb}
-use borrow.Author.Rules.{rules}
-use lib.ListN.{drop, get_or}
-use Rattle.spare.specs.Tags.{tags, distance, nearest}
-use Rattle.spare.proofs.Tagging.{nearest_next}
+use mathlib.Core.Path.{◌≡◌}
+use Prim.Native.Nat.{◌≤◌, ◌-◌}
+use lib.ListN.{drop}
+use Rattle.spare.specs.Tags.{tags, nearest}
 use Rattle.spare.proofs.nearest_tag.Given as goal
 
 abbrev pub invariant-loop-i : goal.invariant-loop-i

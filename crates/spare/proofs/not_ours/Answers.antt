@@ -2,7 +2,6 @@
 -- Assumes nothing.
 use mathlib.Core.Path.{sym, ◌∙◌}
 use Rattle.spare.specs.Reading.{not_ours}
-use borrow.Author.Rules.{rules}
 use Rattle.spare.proofs.not_ours.Goals as goal
 
 pub returns-then-is_erased : goal.returns-then-is_erased

@@ -3,7 +3,6 @@
 use mathlib.Core.Path.{◌∙◌, sym}
 use borrow.Author.Tests.{eq-eqb, ne_eqb}
 use Rattle.spare.specs.Reading.{spare_answer}
-use borrow.Author.Rules.{rules}
 use Rattle.spare.proofs.read_spare.Goals as goal
 
 pub returns-then-spare-ne-SPARE : goal.returns-then-spare-ne-SPARE

@@ -5,7 +5,6 @@ use native.Mathlib.Omega.{arith}
 use borrow.Author.Tests.{eq-eqb, ne_eqb}
 use Rattle.spare.specs.Writing.{write_answer, spare_after}
 use Rattle.spare.proofs.Writables.{writable_fits}
-use borrow.Author.Rules.{rules}
 use Rattle.spare.proofs.write_spare.Goals as goal
 
 pub returns-then-bytes-ne-PAGE : goal.returns-then-bytes-ne-PAGE

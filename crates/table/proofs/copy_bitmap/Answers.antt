@@ -2,15 +2,14 @@
 -- Assumes nothing.
 use mathlib.Core.List.{List}
 use mathlib.Core.Path.{◌≡◌, refl, sym, ap, ◌∙◌}
-use Prim.Native.Nat.{ℕ, ◌+◌, ◌*◌, ◌-◌, ◌<◌, ◌≤◌, min}
+use Prim.Native.Nat.{ℕ, ◌+◌, ◌*◌, ◌-◌, ◌<◌, ◌≤◌}
 use native.Mathlib.Omega.{arith}
-use borrow.Author.Rules.{rules}
 use borrow.Rule.Slice.PartMut.{put_mid, same_len_mid}
 use lib.ListN.{length, take}
 use lib.Seq.{take_all}
 use Rattle.bbt.specs.Pages.{part_length}
 use Rattle.region.specs.Stored.{stored_parts}
-use Rattle.chip.specs.Large.{bitmap_bytes, pages_of}
+use Rattle.chip.specs.Large.{pages_of}
 use Rattle.chip.specs.declared.LargeChip.{LargeChip}
 use Rattle.region.specs.Parts.{part_of}
 use Rattle.table.proofs.Copying.{part_size, copy_next}

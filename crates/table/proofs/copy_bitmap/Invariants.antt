@@ -1,17 +1,10 @@
 -- `copy_bitmap` meets its contract: the bytes before `from` are those of the pages before p.
 -- Assumes nothing.
-use mathlib.Core.List.{List}
-use mathlib.Core.Path.{◌≡◌, refl, sym, ap, ◌∙◌}
-use Prim.Native.Nat.{ℕ, ◌+◌, ◌*◌, ◌-◌, ◌<◌, ◌≤◌, min}
-use native.Mathlib.Omega.{arith}
-use borrow.Author.Rules.{rules}
-use borrow.Rule.Slice.PartMut.{put_mid, same_len_mid}
+use mathlib.Core.Path.{◌≡◌}
+use Prim.Native.Nat.{◌*◌, ◌-◌, ◌≤◌, min}
 use lib.ListN.{length, take}
-use lib.Seq.{take_all}
-use Rattle.bbt.specs.Pages.{part_length}
 use Rattle.region.specs.Stored.{stored_parts}
-use Rattle.chip.specs.Large.{bitmap_bytes, pages_of}
-use Rattle.table.proofs.Copying.{part_size, copy_next}
+use Rattle.chip.specs.Large.{bitmap_bytes}
 use Rattle.table.proofs.copy_bitmap.Given as goal
 
 abbrev pub invariant-loop-p : goal.invariant-loop-p

@@ -23,7 +23,6 @@ use Rattle.table.specs.declared.TableAnswer.TheVariants.{Read, Refused}
 use Rattle.region.specs.Cases.{lent_case}
 use Rattle.table.specs.Tables.{told_reading, table_answer, room_by, table_after}
 use Rattle.region.proofs.Judged.{Known, case_known, judged_case, judged_out, known_valid, known_image, known_copies, known_reading, settled_reading}
-use borrow.Author.Rules.{rules}
 use Rattle.table.proofs.read_table.Goals as goal
 
 module _ (n size : ℕ) (image status room : List ℕ) where

@@ -4,7 +4,6 @@ use mathlib.Core.Path.{◌∙◌, sym}
 use native.Mathlib.Omega.{arith}
 use Rattle.bbt.specs.Told.{steps_by, retired_first, nth_step}
 use Rattle.bbt.proofs.ToldSteps.{zeros_after}
-use borrow.Author.Rules.{rules}
 use Rattle.bbt.proofs.Plan.step.Goals as goal
 use Rattle.bbt.proofs.Plan.step.Goals.{in-Nothing, in-Block+else-k-eq0}
 

@@ -3,7 +3,6 @@
 use native.Mathlib.Omega.{arith}
 use Rattle.bbt.specs.Told.{steps_by}
 use Rattle.bbt.proofs.ToldSteps.{zeros_count}
-use borrow.Author.Rules.{rules}
 use Rattle.bbt.proofs.Plan.step_count.Goals as goal
 
 pub returns : goal.returns

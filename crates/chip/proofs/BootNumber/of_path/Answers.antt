@@ -2,7 +2,6 @@
 -- Assumes nothing.
 use borrow.Author.Tests.{lt-ltb, le-ltb}
 use Rattle.chip.specs.Boot.{boot_of}
-use borrow.Author.Rules.{rules}
 use Rattle.chip.proofs.BootNumber.of_path.Goals as goal
 
 pub returns-then-path-ge-WORDS : goal.returns-then-path-ge-WORDS

@@ -3,7 +3,6 @@
 use native.Mathlib.Omega.{arith}
 use borrow.Author.Tests.{lt-ltb, le-ltb, le-leb, lt-leb}
 use Rattle.chip.specs.Boot.{path_of}
-use borrow.Author.Rules.{rules}
 use Rattle.chip.proofs.BootNumber.path.Goals as goal
 
 pub returns-then-self-ge-BOOTS : goal.returns-then-self-ge-BOOTS

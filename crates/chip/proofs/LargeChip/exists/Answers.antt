@@ -1,7 +1,6 @@
 -- `LargeChip::exists` meets its contract: two tests, the second where the first passes.
 -- Assumes nothing.
 use mathlib.Core.Path.{◌∙◌, sym}
-use borrow.Author.Rules.{rules}
 use Rattle.chip.proofs.LargeChip.exists.Goals as goal
 
 pub returns-then-is_blocks : goal.returns-then-is_blocks

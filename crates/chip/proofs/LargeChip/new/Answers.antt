@@ -2,7 +2,6 @@
 -- Assumes nothing.
 use mathlib.Core.Path.{◌∙◌, sym}
 use Rattle.chip.specs.Large.{chip_of}
-use borrow.Author.Rules.{rules}
 use Rattle.chip.proofs.Numbers.{made_chip}
 use Rattle.chip.proofs.LargeChip.new.Goals as goal
 

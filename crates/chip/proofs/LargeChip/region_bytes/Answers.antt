@@ -3,7 +3,6 @@
 use native.Mathlib.Nat.{mul-le-mul_right}
 use native.Mathlib.Omega.{arith}
 use Rattle.chip.specs.Large.{pages_of}
-use borrow.Author.Rules.{rules}
 use Rattle.chip.proofs.LargeChip.region_bytes.Goals as goal
 
 pub overflow_mul-result : goal.overflow_mul-result

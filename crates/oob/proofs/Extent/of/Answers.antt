@@ -2,7 +2,6 @@
 -- Assumes nothing.
 use mathlib.Core.Path.{sym, ◌∙◌}
 use Rattle.oob.specs.Oob.{extent_of}
-use borrow.Author.Rules.{rules}
 use Rattle.oob.proofs.Extent.of.Goals as goal
 
 pub returns-in-Refused : goal.returns-in-Refused

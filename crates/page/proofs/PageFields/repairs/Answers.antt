@@ -2,7 +2,6 @@
 -- Assumes nothing.
 use native.Mathlib.Omega.{arith}
 use Rattle.page.proofs.Counting.{spare_le, repairs_le}
-use borrow.Author.Rules.{rules}
 use Rattle.page.proofs.PageFields.repairs.Goals as goal
 
 pub overflow_add-result : goal.overflow_add-result
