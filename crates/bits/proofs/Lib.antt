@@ -8,3 +8,4 @@ pub mod Bytes
 pub mod Filling
 pub mod Gathering
 pub mod Zipped
+pub mod Parts

@@ -48,6 +48,11 @@ impl SmallChip {
 
     // The bytes in which a C caller is told what a spare or a page holds.
     pub const FIELDS: usize = 11;
+
+    // The bytes that tell the place that was put right in a half, and what a page holds: its spare and both places.
+    pub const PLACE: usize = 3;
+
+    pub const PAGE_FIELDS: usize = SmallChip::FIELDS + 2 * SmallChip::PLACE;
 }
 
 // The large chip: 2,048 data bytes and 64 OOB bytes a page; its number of blocks, and how many of the last hold the tables.

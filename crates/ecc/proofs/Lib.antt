@@ -7,3 +7,4 @@ pub mod Counts
 pub mod Verdicts
 pub mod Protection
 pub mod Linear
+pub mod Places

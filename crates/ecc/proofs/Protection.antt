@@ -31,7 +31,7 @@ use Rattle.ecc.proofs.Counts.{count_sum, count_none, count_pairs}
 use Rattle.ecc.proofs.Verdicts.{verdict_ext, verdict_even, pairs_each}
 
 -- the code bits that change where the bit at a place flips
-pattern : Place → ℕ → Bool
+unfoldable pub pattern : Place → ℕ → Bool
 pattern (data_at a b) j = counts j a b
 pattern (code_at i) j = eqb i j
 
@@ -70,10 +70,10 @@ mask_bit i j hi hj =
     same→eq _ _ (below (λ j. same (stored_bit (mask i) j) (eqb i j)) 22
     (below (λ i. all (λ j. same (stored_bit (mask i) j) (eqb i j)) 0 22) 22 tt i hi) j hj)
 
-differs : Kept → ℕ → Bool
+unfoldable pub differs : Kept → ℕ → Bool
 differs k j = difference k.code (code_of k.half) j
 
-differs_flip : (k : Kept) (p : Place) (j : ℕ) → length k.half ≡ 256 → Real p → j < 22 → differs (flip p k) j ≡ (differs k j ⊕ pattern p j)
+pub differs_flip : (k : Kept) (p : Place) (j : ℕ) → length k.half ≡ 256 → Real p → j < 22 → differs (flip p k) j ≡ (differs k j ⊕ pattern p j)
 unfolding differs difference pattern
 differs_flip k (data_at a b) j l r h =
     ap (λ (t : Bool). stored_bit k.code j ⊕ t) (stored_flip k.half a b j (omega arith) r.1 h)
@@ -87,9 +87,15 @@ length_flip : (k : Kept) (p : Place) → length k.half ≡ 256 → length (flip 
 length_flip k (data_at a b) l = length-set k.half a (bit_xor (get_or k.half a 0) (2 ^ b)) ∙ l
 length_flip k (code_at j) l = l
 
+-- two bits whose sum is 0 are the same
+pub same_bits : (a b : Bool) → (a ⊕ b) ≡ false → a ≡ b
+same_bits true true e = refl
+same_bits true false e = e
+same_bits false b e = sym e
+
 -- ---- the verdict names a pattern's place
 -- member i of pair k: the place's bit k, inverted in the even member
-pair_member : (k i j a b : ℕ) → j ≡ 2 * k + i → i < 2 → counts j a b ≡ cond (eqb i 1) (place_bit k a b) (not (place_bit k a b))
+pub pair_member : (k i j a b : ℕ) → j ≡ 2 * k + i → i < 2 → counts j a b ≡ cond (eqb i 1) (place_bit k a b) (not (place_bit k a b))
 unfolding counts
 pair_member k i j a b e h =
     let z : j % 2 ≡ i = omega arith in
@@ -127,7 +133,7 @@ unfolding count_set last_set
 code_pattern i h =
     (eqb→eq _ _ (below (λ i. eqb (count_set 22 (eqb i)) 1) 22 tt i h), eqb→eq _ _ (below (λ i. eqb (last_set 22 (eqb i)) i) 22 tt i h))
 
-pattern_named : (p : Place) → Real p → verdict (pattern p) ≡ named p
+pub pattern_named : (p : Place) → Real p → verdict (pattern p) ≡ named p
 unfolding verdict pattern
 pattern_named (data_at a b) r = rw (eleven a b r.0 r.1, one_each a b r.0 r.1, spells_byte a b r.0 r.1, spells_bit a b r.0 r.1)
 pattern_named (code_at j) r = rw ((code_pattern j r).0, (code_pattern j r).1)
@@ -179,11 +185,6 @@ module _ (half : List ℕ) (l : length half ≡ 256) where
     where
       sum : ℕ → Bool
       sum j = pattern q j ⊕ pattern p j
-
-      same_bits : (a b : Bool) → (a ⊕ b) ≡ false → a ≡ b
-      same_bits true true e = refl
-      same_bits true false e = e
-      same_bits false b e = sym e
 
 pub protects : (half : List ℕ) → length half ≡ 256 → Protects half
 protects half l = record { clean = no_flip half l; one = one_flip half l; right = one_mends half l; two = two_flips half l }

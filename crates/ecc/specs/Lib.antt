@@ -3,3 +3,4 @@ pub mod Sums
 pub mod Verdicts
 pub mod Flips
 pub mod Claims
+pub mod Places

@@ -7,6 +7,10 @@ use Rattle.bbt.specs.declared.Step.TheVariants.{Erase, Write, Zero, Past}
 use Rattle.bits.specs.Bytes.{byte_of}
 use Rattle.chip.specs.Refusals.{refusal_number, refusal_detail}
 use Rattle.chip.specs.declared.Refusal.{Refusal}
+use Rattle.ecc.specs.declared.Verdict.{Verdict}
+use Rattle.ecc.specs.declared.Verdict.TheVariants.{Clean, CodeBit, DataBit, NotRepairable}
+use Rattle.page.specs.Pages.{page_repairs}
+use Rattle.page.specs.declared.PageFields.{PageFields}
 use Rattle.spare.specs.declared.SpareFields.{SpareFields}
 
 -- a refusal: bits 0-7 its number, its detail above
@@ -28,6 +32,17 @@ field_bytes f repairs =
     ∷ byte_of 0 f.count
     ∷ repairs
     ∷ []
+
+-- document 02, T-05: the place that was put right in a half, in three bytes: 01, data byte, bit; 02, code bit, 00; where nothing was, 00 00 00
+abbrev pub place_bytes : Verdict → List ℕ
+place_bytes Clean = 0 ∷ 0 ∷ 0 ∷ []
+place_bytes (DataBit a b) = 1 ∷ a ∷ b ∷ []
+place_bytes (CodeBit j) = 2 ∷ j ∷ 0 ∷ []
+place_bytes NotRepairable = 0 ∷ 0 ∷ 0 ∷ []
+
+-- the seventeen bytes of what was read of a page: its spare, with the repairs of the page, and the place of each half, first half first
+unfoldable pub page_bytes : PageFields → List ℕ
+page_bytes f = field_bytes f.spare (page_repairs f) ++ (place_bytes f.first ++ place_bytes f.second)
 
 -- a step in four bytes: kind, chip block big endian, page. No plan holds a step past its end
 abbrev pub four_bytes : ℕ → ℕ → ℕ → List ℕ

@@ -1,3 +1,4 @@
 pub mod Counting
 pub mod TwoHalves
 pub mod ReadBack
+pub mod Places

@@ -13,6 +13,7 @@ use Rattle.chip.specs.declared.Half.TheVariants.{First, Second}
 use Rattle.chip.specs.declared.Refusal.TheVariants.{Unrepairable}
 use Rattle.ecc.specs.Claims.{Protects, told}
 use Rattle.ecc.specs.Flips.{Place, data_at, code_at, Real, named, written as kept}
+use Rattle.ecc.specs.Places.{places}
 use Rattle.ecc.specs.Verdicts.{half_start, mended, repairs}
 use Rattle.ecc.proofs.Protection.{protects}
 use Rattle.spare.specs.Claims.{Writable, spare_fields_of}
@@ -20,7 +21,8 @@ use Rattle.spare.specs.Writing.{first_half, second_half}
 use Rattle.spare.proofs.ReadBack.{spare_reads_back}
 use Rattle.page.specs.declared.PageAnswer.{PageAnswer}
 use Rattle.page.specs.declared.PageAnswer.TheVariants.{Refused}
-use Rattle.page.specs.Claims.{Page, written, flipped, Flips, none, one, two, RealFlips, with_flips, flip_verdict, flip_repairs, unless_two, flip_answer, flip_data, Reading, ReadsBack}
+use Rattle.ecc.proofs.Places.{named_places}
+use Rattle.page.specs.Claims.{Page, written, flipped, Flips, none, one, two, RealFlips, with_flips, flip_verdict, flip_places, flip_repairs, unless_two, flip_answer, flip_data, Reading, ReadsBack}
 use Rattle.page.specs.Pages.{is_repairable, by_verdicts, data_by}
 use Rattle.page.proofs.TwoHalves.{kept_with, flips_in, start, page_second, page_both, page_length, page_read}
 
@@ -48,6 +50,11 @@ flips_told : (half : List ℕ) → Protects half → (f : Flips) → RealFlips f
 flips_told half p none s = p.clean
 flips_told half p (one q) s = p.one q s
 flips_told half p (two q r) s = p.two q r s.0 s.1 s.2
+
+flips_located : (f : Flips) → places (flip_verdict f) ≡ flip_places f
+flips_located none = refl
+flips_located (one q) = named_places q
+flips_located (two q r) = refl
 
 flips_repairs : (f : Flips) → repairs (flip_verdict f) ≡ flip_repairs f
 flips_repairs none = refl
@@ -109,5 +116,6 @@ reads_back bytes tag path count w =
     record {
       spare = spare_reads_back bytes tag path count w;
       reads = reads w;
+      located = λ f g. (flips_located f, flips_located g);
       counted = λ f g. omega (arith, flips_repairs f, flips_repairs g);
     }

@@ -1,6 +1,6 @@
 -- Demand 2 for pages: what may be written is written, and reads back as the same fields; in a page otherwise as written, one flipped bit
 -- in a half, among its 256 bytes or their 22 code bits, still gives the data as written, and two are refused, whatever the other half has.
-use Rattle.std.specs.Prelude.{cond, List, ◌≡◌, ℕ, ◌+◌, ◌-◌, ltb}
+use Rattle.std.specs.Prelude.{cond, List, [], ◌∷◌, ◌≡◌, ℕ, ◌+◌, ◌-◌, ltb}
 use Rattle.bits.specs.Bytes.{flip_at}
 use Rattle.chip.specs.declared.Half.{Half}
 use Rattle.chip.specs.declared.Half.TheVariants.{First, Second}
@@ -14,7 +14,7 @@ use Rattle.spare.specs.Writing.{spare_of}
 use Rattle.page.specs.declared.PageAnswer.{PageAnswer}
 use Rattle.page.specs.declared.PageAnswer.TheVariants.{Read, Refused}
 use Rattle.page.specs.declared.PageFields.{PageFields}
-use Rattle.page.specs.Pages.{code_place, page_answer, data_after, page_repairs}
+use Rattle.page.specs.Pages.{code_place, page_answer, data_after, places_in, page_repairs}
 
 -- 512 data bytes and 16 spare bytes
 pub record Page : Type 0 where
@@ -61,6 +61,12 @@ flip_verdict none = Clean
 flip_verdict (one q) = named q
 flip_verdict (two q r) = NotRepairable
 
+-- the place that it tells: that of its one flipped bit
+abbrev pub flip_places : Flips → List Place
+flip_places none = []
+flip_places (one q) = q ∷ []
+flip_places (two q r) = []
+
 -- and how many repairs it counts
 abbrev pub flip_repairs : Flips → ℕ
 flip_repairs none = 0
@@ -98,5 +104,9 @@ pub record ReadsBack (bytes : List ℕ) (tag path count : ℕ) : Type 0 where
   pub reads : (f g : Flips) → RealFlips f → RealFlips g
       → let p : Page = with_flips First f (with_flips Second g (written bytes tag path count)) in
       Reading p (flip_answer tag path count f g) (flip_data (flip_answer tag path count f g) bytes p.bytes)
+  -- document 02, T-05: the place told of a half is its flipped bit; none is told where no bit is flipped
+  pub located : (f g : Flips)
+      → let told : PageFields = fields_of tag path count (flip_verdict f) (flip_verdict g) in
+      (places_in First told ≡ flip_places f) × (places_in Second told ≡ flip_places g)
   -- how many were repaired: the halves with one flipped bit
   pub counted : (f g : Flips) → page_repairs (fields_of tag path count (flip_verdict f) (flip_verdict g)) ≡ flip_repairs f + flip_repairs g

@@ -1,3 +1,4 @@
 pub mod Pages
 pub mod Judging
 pub mod Claims
+pub mod Places

@@ -3,6 +3,8 @@ use Rattle.std.specs.Prelude.{Bool, true, false, cond, List, ℕ, ◌+◌, eqb, 
 use Rattle.chip.specs.declared.Half.{Half}
 use Rattle.chip.specs.declared.Half.TheVariants.{First, Second}
 use Rattle.chip.specs.declared.Refusal.TheVariants.{Length, Unrepairable}
+use Rattle.ecc.specs.Flips.{Place}
+use Rattle.ecc.specs.Places.{places}
 use Rattle.ecc.specs.Verdicts.{found, mended, repairs}
 use Rattle.ecc.specs.declared.Code.{Code}
 use Rattle.ecc.specs.declared.Verdict.{Verdict}
@@ -58,3 +60,12 @@ data_after bytes s = data_by (page_answer bytes s) bytes
 -- how many of tag, path word, count word, first half and second half were repaired: 0 to 5
 abbrev pub page_repairs : PageFields → ℕ
 page_repairs f = spare_repairs f.spare.repaired + repairs f.first + repairs f.second
+
+-- what was put right in a half
+abbrev pub verdict_in : Half → PageFields → Verdict
+verdict_in First f = f.first
+verdict_in Second f = f.second
+
+-- document 02, T-05: its place; none where nothing was put right
+abbrev pub places_in : Half → PageFields → List Place
+places_in h f = places (verdict_in h f)
