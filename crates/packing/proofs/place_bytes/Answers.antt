@@ -1,7 +1,6 @@
 -- `place_bytes` meets its contract in each case of the verdict.
 -- Assumes nothing.
 use mathlib.Core.Path.{refl}
-use borrow.Author.Rules.{rules}
 use Rattle.packing.proofs.place_bytes.Goals as goal
 
 pub returns-in-Clean : goal.returns-in-Clean

@@ -1,7 +1,6 @@
 -- `put_page` meets its contract: seventeen bytes in three parts, or nothing.
 -- Assumes nothing.
 use native.Mathlib.Omega.{arith}
-use borrow.Author.Rules.{rules}
 use Rattle.packing.proofs.Pages.{page_kept, page_put}
 use Rattle.packing.proofs.put_page.Goals as goal
 
