@@ -53,8 +53,11 @@ programs := example host_test histories bench ream
 
 all: $(library) $(programs:%=$(host)/%) $(host)/host_test_sanitized $(host)/histories_sanitized $(host)/ream_sanitized
 
-$(library): $(shell find crates crates.txt -type f 2>/dev/null)
-	rt staticlib reamsickle
+# The crate that exports the C entries is reamsickle_c. The archive is for any x86-64 processor.
+$(library): $(shell find crates crates.txt -type f -not -path '*/out/*' 2>/dev/null)
+	cd crates/reamsickle_c && rt lib --cpu=x86-64
+	@mkdir -p $(@D)
+	cp crates/reamsickle_c/out/libreamsickle_c.a $@
 
 help:
 	@sed -n -e '/^#/!q' -e 's/^# \{0,1\}//p' $(firstword $(MAKEFILE_LIST))

@@ -40,7 +40,7 @@ compile() ( # FILE OBJECT
 	"$clang" "$@"
 )
 
-ar p "$archive" reamsickle.o > "$work/archived.o"
+ar p "$archive" reamsickle_c.o > "$work/archived.o"
 for file in module.bc module.ll; do
 	compile "$module/$file" "$work/$file.o"
 	cmp "$work/archived.o" "$work/$file.o" || fail "$file, compiled again, is not the object in $archive"
