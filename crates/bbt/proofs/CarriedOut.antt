@@ -27,7 +27,9 @@ use Rattle.bbt.proofs.Forms.{Sole, sole_clear, sole_in, sole_fit, sole_length, s
 use Rattle.bbt.proofs.LeftPages.{Judged, judge, primary_kind, mirror_kind}
 use Rattle.bbt.proofs.Numbering.{Tracked, track_first, track_next, track_numbered}
 use Rattle.bbt.proofs.Placing.{did, broke, Placing, place_start, place_fill, place_retire}
-use Rattle.bbt.proofs.Planning.{in_force, plan_is, Asked, Update, no_news, news, updates, settled_reading, reading_settled, plan_asked, Ready, nothing_to_do, one_to_place, both_to_place, plan_ready}
+use Rattle.bbt.proofs.Planning.{in_force, plan_is, Asked, Update, no_news, news, updates, settled_reading, reading_settled, plan_asked, Ready, nothing_to_do, one_to_place, both_to_place}
+use Rattle.bbt.proofs.Ready.{plan_ready}
+use Rattle.bbt.proofs.Retires.{step_retires}
 use Rattle.bbt.proofs.Searches.{no_confusion}
 use Rattle.bbt.proofs.Working.{Role, first_primary, last_primary, last_mirror, last_role, rest_of, Work, Worked, still, finished, work_first, work_done, work_failed}
 
@@ -61,21 +63,6 @@ has_step (place_fill n q h w f) e = no_confusion (cc)
 has_step (place_retire w t cl hz nz nb ft hb ne) e = no_confusion (cc)
 
 -- ---- a plan made anew has a failed block
-block_retires : {z : Plan} (q : Plan) (b : ℕ) (o : Option ℕ) → moved_to q b o ≡ plan z → z.failed ≢ []
-unfolding moved_to
-block_retires q b none e f = no_confusion (cc)
-block_retires {z} q b (some x) e f =
-    let w : record { failed = b ∷ q.failed; job = moved q.job b x } ≡ z = cc in
-    let v : b ∷ q.failed ≡ [] = ap (λ (p : Plan). p.failed) w ∙ f in
-    no_confusion (cc)
-
-step_retires : (chip : LargeChip) (R : View) {z : Plan} (q : Plan) (e : Option Step) → step_fails chip R q e ≡ plan z → z.failed ≢ []
-unfolding step_fails block_fails
-step_retires chip R q none e = λ f. no_confusion (cc)
-step_retires chip R q (some (erase b)) e = block_retires q b (target chip R (other_block q.job b ∷ b ∷ q.failed)) e
-step_retires chip R q (some (write b p k t)) e = block_retires q b (target chip R (other_block q.job b ∷ b ∷ q.failed)) e
-step_retires chip R q (some (zeros b)) e = λ f. no_confusion (cc)
-
 failure_retires : (chip : LargeChip) (R : View) {z : Plan} (a : Answer) (i : ℕ) → failure chip R a i ≡ plan z → z.failed ≢ []
 unfolding failure
 failure_retires chip R (refuse r) i e = λ f. no_confusion (cc)

@@ -57,7 +57,7 @@ doing_moved {b = b} n doing_first y = rw (eq-eqb b b refl)
 doing_moved {b = b} {g = g} n doing_second y = rw (ne_eqb b g (λ e. n (sym e)))
 doing_moved n doing_only y = refl
 
-doing_again : {d : Turn} {k : Kind} {b g : ℕ} {x : Table} {j : Job} → Doing d k b g x j → (y : ℕ) → Doing d k y g x (job_at d k g x y)
+pub doing_again : {d : Turn} {k : Kind} {b g : ℕ} {x : Table} {j : Job} → Doing d k b g x j → (y : ℕ) → Doing d k y g x (job_at d k g x y)
 unfolding job_at
 doing_again doing_first y = doing_first
 doing_again doing_second y = doing_only
@@ -109,11 +109,11 @@ unfolding step_fails
 at_fails chip R q e b erase_at = refl
 at_fails chip R q e b write_at = refl
 
-answered_by : (chip : LargeChip) {e : Step} {b : ℕ} → At e b → (x : Answer) → (x ≡ refuse NoTarget) ⊎ Retires chip x b → IfItFails chip e x
+pub answered_by : (chip : LargeChip) {e : Step} {b : ℕ} → At e b → (x : Answer) → (x ≡ refuse NoTarget) ⊎ Retires chip x b → IfItFails chip e x
 answered_by chip erase_at x h = h
 answered_by chip write_at x h = h
 
-zeros_answered : (chip : LargeChip) {e : Step} {z : ℕ} {x : Answer} → e ≡ zeros z → x ≡ refuse ZeroFailed → IfItFails chip e x
+pub zeros_answered : (chip : LargeChip) {e : Step} {z : ℕ} {x : Answer} → e ≡ zeros z → x ≡ refuse ZeroFailed → IfItFails chip e x
 zeros_answered chip {x = x} u h = rw u h
 
 module _ {chip : LargeChip} where
@@ -180,7 +180,7 @@ module _ {chip : LargeChip} (ok : Judged chip) where
     answer_anew : answer call (with_failed a i) ≡ step_fails chip (view a.from) h.q (some e)
     answer_anew = plan_is ok (with_failed a i) call ∙ rw (h.lent, replanned)
 
-    zeros_refused : (z : ℕ) → e ≡ zeros z → answer call (with_failed a i) ≡ refuse ZeroFailed
+    pub zeros_refused : (z : ℕ) → e ≡ zeros z → answer call (with_failed a i) ≡ refuse ZeroFailed
     unfolding step_fails
     zeros_refused z u = answer_anew ∙ rw u
 
@@ -218,7 +218,7 @@ module _ {chip : LargeChip} (ok : Judged chip) where
                 forces = replanned ∙ (by_target (some y) u ∙ ap (λ (j : Job). plan (record { failed = b ∷ h.q.failed; job = j })) v);
               }
 
-      at_answer : (answer call (with_failed a i) ≡ refuse NoTarget) ⊎ Retires chip (answer call (with_failed a i)) b
+      pub at_answer : (answer call (with_failed a i) ≡ refuse NoTarget) ⊎ Retires chip (answer call (with_failed a i)) b
       unfolding moved_to step_at
       at_answer = go (target chip (view a.from) avoid) refl
         where
@@ -226,36 +226,3 @@ module _ {chip : LargeChip} (ok : Judged chip) where
               → (answer call (with_failed a i) ≡ refuse NoTarget) ⊎ Retires chip (answer call (with_failed a i)) b
           go none u = inl (answer_anew ∙ by_target none u)
           go (some y) u = inr (record { failed = b ∷ h.q.failed; job = moved h.q.job b y }, answer_anew ∙ by_target (some y) u, refl)
-
-      -- block b alone was touched: the target is fit, and is none of the others
-      module _ (f : Frame r s b) (q : Plan) (w : Anew q) where
-        off : (w.y ≢ g) × (member w.y (b ∷ h.q.failed) ≡ false)
-        off = member_apart w.y g (b ∷ h.q.failed) w.chosen.off
-
-        pub anew_apart : g ≢ w.y
-        anew_apart e = off.0 (sym e)
-
-        pub anew_off : w.y ≢ b
-        anew_off = (member_apart w.y b h.q.failed off.1).0
-
-        pub anew_fit : reads_bad (view s) w.y ≡ false
-        anew_fit =
-            frame_bad ok r s b f w.y w.chosen.below anew_off
-            ∙ (h.since w.y w.chosen.below anew_off off.0 (member_apart w.y b h.q.failed off.1).1 ∙ w.chosen.fit)
-
-        pub anew_held : Held s call (with_failed a i) d k w.y g x
-        anew_held =
-            record {
-              q = record { failed = b ∷ h.q.failed; job = job_at d k g x w.y };
-              lent = h.lent;
-              forced = w.forces;
-              doing = doing_again h.doing w.y;
-              since = λ c l n m v.
-                  let u = member_apart c b h.q.failed v in
-                  frame_bad ok r s b f c l u.0 ∙ h.since c l u.0 m u.1;
-            }
-
-    -- what planning answers, whichever step it is
-    pub if_it_fails : At e b ⊎ ((z : ℕ) × (e ≡ zeros z)) → g ≢ b → IfItFails chip e (answer call (with_failed a i))
-    if_it_fails (inl at) n = answered_by chip at (answer call (with_failed a i)) (at_answer at n)
-    if_it_fails (inr (z, u)) n = zeros_answered chip u (zeros_refused z u)

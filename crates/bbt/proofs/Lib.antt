@@ -15,12 +15,17 @@ pub mod Outcomes
 pub mod Placing
 pub mod Updating
 pub mod Planning
+pub mod Ready
 pub mod Numbering
 pub mod Failing
+pub mod Anew
 pub mod Working
+pub mod Invariant
 pub mod Events
+pub mod Course
 pub mod PowerCuts
 -- a plan carried out uncut
+pub mod Retires
 pub mod CarriedOut
 -- one chip with two sizes of its region
 pub mod Sizes
@@ -28,4 +33,5 @@ pub mod Sizes
 pub mod AllBytes
 pub mod Putting
 pub mod Possible
+pub mod NothingLeftOut
 pub mod Starts

@@ -268,7 +268,7 @@ module _ {chip : LargeChip} (ok : Judged chip) where
   older_ready r (negsuc n) p m x y q u v e =
       to_ready r (single Primary p m y) q e (one_to_place primary_kind v (sole_clear ok u) (sole_fit ok u) (sole_in ok u) (sole_apart ok mirror_kind u v))
 
-  recovery_ready : (r : Region chip) (c : Case) (q : Plan) → Says r c → recover_case chip (view r) c ≡ plan q → AsMade (Ready r) q
+  pub recovery_ready : (r : Region chip) (c : Case) (q : Plan) → Says r c → recover_case chip (view r) c ≡ plan q → AsMade (Ready r) q
   unfolding recover_case recover_to anded
   recovery_ready r (no_pair x) q s e = absurd (no_confusion (cc))
   recovery_ready r (alone k g) q s e = go (target chip (view r) (g ∷ [])) refl e
@@ -363,18 +363,3 @@ module _ {chip : LargeChip} (ok : Judged chip) where
   sound_settled (ahead x y e) h i = sole_table x h
   sound_settled (one_left primary_kind l) h i = absurd (sole_missing h l.lacking)
   sound_settled (one_left mirror_kind l) h i = absurd (sole_missing i l.lacking)
-
-  -- ---- every plan that the library makes is ready
-  pub plan_ready : (r : Region chip) (call : Call) (q : Plan) → answer call (snapshot r) ≡ plan q → AsMade (Ready r) q
-  unfolding plan_by_rules recovery
-  plan_ready r for_recovery q e = recovery_ready r (pair_case chip (view r)) q (case_says r) (plan_asked r for_recovery q e).first
-  plan_ready r (for_update w) q e =
-      let h = plan_asked r (for_update w) q e in
-      let a = update_reads r w q h in
-      let s = reading_settled r a.0 a.1 a.2 a.3 in
-      let u = updates r a.0 a.1 a.2 w q s.0 s.1 h in
-      (u.0, u.1, go u.2 s.0 s.1)
-    where
-      go : {o n : Table} {p m : ℕ} {j : Job} → Update chip o n p m j → Sole r Primary p o → Sole r Mirror m o → Ready r j
-      go (no_news z) x y = nothing_to_do x y refl
-      go (news z) x y = both_to_place x y z.full

@@ -240,7 +240,7 @@ module _ {chip : LargeChip} where
         | inr h ↦ inl (λ w. h.2 (w h.0 h.1))
       ]
 
-  can_close : (r : Region chip) (l : Last) → (l' : Last) × Closes r l l'
+  pub can_close : (r : Region chip) (l : Last) → (l' : Last) × Closes r l l'
   can_close r (one_table t) = (one_table t, as_one)
   can_close r (closed o n w) = (closed o n w, as_closed)
   can_close r (pending o n) =
@@ -313,7 +313,7 @@ module _ {chip : LargeChip} where
       go (left_zeroed v d) ok h = inr (inl h.0)
 
   -- ---- plans
-  can_plan : Judged chip → (r : Region chip) (h : Hand chip) (l : Last) (call : Call) (q : Plan) → answer call (snapshot r) ≡ plan q
+  pub can_plan : Judged chip → (r : Region chip) (h : Hand chip) (l : Last) (call : Call) (q : Plan) → answer call (snapshot r) ≡ plan q
       → (l' : Last) × Can r l h (planning call) (world r (holding call (snapshot r) 0 (steps_of (pages_of chip) q)) l')
   can_plan ok r h l (for_update w) q e =
       let s = update_reads ok r w q (plan_asked ok r (for_update w) q e) in
@@ -328,7 +328,7 @@ module _ {chip : LargeChip} where
       let z : refuse x ≡ plan q = sym a ∙ (ap (λ (call : Call). answer call (snapshot r)) (sym i) ∙ e) in
       no_confusion (cc)
 
-  must_refuse : (r : Region chip) (h : Hand chip) (l : Last) (call : Call) (x : Refusal) (w : World chip) → answer call (snapshot r) ≡ refuse x
+  pub must_refuse : (r : Region chip) (h : Hand chip) (l : Last) (call : Call) (x : Refusal) (w : World chip) → answer call (snapshot r) ≡ refuse x
       → Can r l h (planning call) w → w ≡ world r h l
   must_refuse r h l call x w a (plan_refused c y e, k) = refl
   must_refuse r h l call x w a (update_planned wanted p m o q e s, k) = absurd (not_planned r (for_update wanted) call q x a e k)
@@ -342,12 +342,12 @@ module _ {chip : LargeChip} where
   must_refuse r h l call x w a (no_plan, k) = absurd (no_confusion (cc))
 
   -- ---- with no step left
-  can_idle : (r : Region chip) (h : Hand chip) (l : Last) → NoStep h → Can r l h stepping (world r h l)
+  pub can_idle : (r : Region chip) (h : Hand chip) (l : Last) → NoStep h → Can r l h stepping (world r h l)
   can_idle r empty l n = (no_plan, refl)
   can_idle r (holding c a i []) l n = (no_step_left, refl)
   can_idle r (holding c a i (e ∷ es)) l n = absurd n
 
-  must_idle : (r : Region chip) (h : Hand chip) (l : Last) (w : World chip) → NoStep h → Can r l h stepping w → w ≡ world r h l
+  pub must_idle : (r : Region chip) (h : Hand chip) (l : Last) (w : World chip) → NoStep h → Can r l h stepping w → w ≡ world r h l
   must_idle r h l w n (plan_refused call x e, k) = absurd (no_confusion (cc))
   must_idle r h l w n (update_planned wanted p m o q e s, k) = absurd (no_confusion (cc))
   must_idle r h l w n (recovery_planned q l' e cl, k) = absurd (no_confusion (cc))
@@ -359,7 +359,7 @@ module _ {chip : LargeChip} where
   must_idle r h l w n (no_step_left, k) = refl
   must_idle r h l w n (no_plan, k) = refl
 
-  idle_page : (r : Region chip) (h : Hand chip) (l : Last) (w : World chip) → NoStep h → Event r l h w → region_of w ≡ r
+  pub idle_page : (r : Region chip) (h : Hand chip) (l : Last) (w : World chip) → NoStep h → Event r l h w → region_of w ≡ r
   idle_page r h l w n (plan_refused call x e) = refl
   idle_page r h l w n (update_planned wanted p m o q e s) = refl
   idle_page r h l w n (recovery_planned q l' e cl) = refl
@@ -381,7 +381,7 @@ module _ {chip : LargeChip} where
       go (plan q) z = inl (q, z, (step_failed s q k d z, refl))
       go (refuse x) z = let w = can_close s l in inr (x, w.0, z, (step_given_up s w.0 x k d z w.1, refl))
 
-  can_happen : Judged chip → (r : Region chip) (l : Last) (c : Call) (a : Snapshot chip) (i : ℕ) (e : Step) (es : List Step) → Harmless r e
+  pub can_happen : Judged chip → (r : Region chip) (l : Last) (c : Call) (a : Snapshot chip) (i : ℕ) (e : Step) (es : List Step) → Harmless r e
       → ImageOf e (asked c a i) → StepOfBytes e → CanHappen r l c a i e es
   can_happen ok r l c a i e es h im by = record {
     done = λ left allows.
@@ -396,21 +396,3 @@ module _ {chip : LargeChip} where
         let w = leave_step (asked c a i) left e r ok h (λ p. cut_takes (asked c a i) e p (left p) im by (allows p)) in
         (w.s, w.is_left, can_fail r l c a i e es w.s w.others (left_cut (asked c a i) left e r w.s allows w.is_left));
   }
-
-pub nothing_left_out : NothingLeftOut
-nothing_left_out n size chip e = record {
-  steps = λ {w} {r} {l} {c} {a} {i} {e = e'} {es} s h.
-      let t = tracked (started s) h in
-      let p = ((demand3 n size chip e).promise s h).next_step in
-      can_happen ok r l c a i e' es p.0 p.1.by_image (bytes_next ok e' t);
-  plans = can_plan ok;
-  refusals = λ r h l call x a. ((plan_refused call x a, refl), λ w c. must_refuse r h l call x w a c);
-  cuts = λ r h l l' cl. (cut_between l' cl, refl);
-  no_step = λ r h l n. (can_idle r h l n, λ w c. must_idle r h l w n c);
-  no_page = idle_page;
-  closes = can_close;
-  from_settled = λ r w q a. update_reads ok r w q (plan_asked ok r (for_update w) q a);
-}
-  where
-    ok : Judged chip
-    ok = judge n size chip e

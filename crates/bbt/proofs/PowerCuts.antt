@@ -12,8 +12,11 @@ use Rattle.bbt.specs.Plans.{Step, fresh, Call, for_recovery}
 use Rattle.bbt.specs.PowerCuts.{InRegion, Outcome, region_of, Settled, Settles, Harmless, NextStep, Promise, Demand3}
 use Rattle.bbt.specs.Regions.{Region}
 use Rattle.bbt.specs.Told.{chip_block}
-use Rattle.bbt.proofs.Events.{Current, the_one, the_new, the_old, no_hand, update_over, Mode, resting, recovered, recovering, renewing, copying, Inv, inv, mode_sound, mode_settled, recovery_planned_is, begin, history}
-use Rattle.bbt.proofs.Failing.{Turn, if_it_fails}
+use Rattle.bbt.proofs.Course.{begin, history}
+use Rattle.bbt.proofs.Events.{mode_sound, mode_settled, recovery_planned_is}
+use Rattle.bbt.proofs.Invariant.{Current, the_one, the_new, the_old, no_hand, update_over, Mode, resting, recovered, recovering, renewing, copying, Inv, inv}
+use Rattle.bbt.proofs.Anew.{if_it_fails}
+use Rattle.bbt.proofs.Failing.{Turn}
 use Rattle.bbt.proofs.LeftPages.{Judged, judge}
 use Rattle.bbt.proofs.Numbering.{Tracked, InHand, HandOf, started, tracked, track_numbered}
 use Rattle.bbt.proofs.Outcomes.{zeroed_bad}

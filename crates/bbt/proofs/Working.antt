@@ -15,7 +15,8 @@ use Rattle.bbt.specs.Histories.{OthersKept, Snapshot, snapshot, with_failed, ans
 use Rattle.bbt.specs.Lent.{call_lent}
 use Rattle.bbt.specs.Plans.{Step, zeros, fresh, Plan, copy_steps, job_steps, steps_of, plan, Call, plan_by_rules}
 use Rattle.bbt.specs.Regions.{Region, view}
-use Rattle.bbt.proofs.Failing.{Turn, first_copy, last_copy, Doing, doing_first, doing_only, job_at, Held, held_first, held_next, At, erase_at, write_at, anew, anew_apart, anew_off, anew_fit, anew_held, zeros_no_plan}
+use Rattle.bbt.proofs.Anew.{anew_apart, anew_off, anew_fit, anew_held}
+use Rattle.bbt.proofs.Failing.{Turn, first_copy, last_copy, Doing, doing_first, doing_only, job_at, Held, held_first, held_next, At, erase_at, write_at, anew, zeros_no_plan}
 use Rattle.bbt.proofs.Forms.{Sole, Clear, Lacks, Whole, Frame, missing_clear}
 use Rattle.bbt.proofs.LeftPages.{Judged, Twin, primary_kind, mirror_kind}
 use Rattle.bbt.proofs.Numbering.{Tracked}

@@ -16,7 +16,8 @@ use Rattle.bbt.specs.Plans as plans
 use Rattle.bbt.specs.PowerCuts.{NotGoodKept, Settled, Promise, region_of}
 use Rattle.bbt.specs.Regions.{Region, view}
 use Rattle.bbt.specs.declared.Kind.{Kind}
-use Rattle.bbt.proofs.Events.{Inv, inv, resting, no_hand, the_one, history}
+use Rattle.bbt.proofs.Course.{history}
+use Rattle.bbt.proofs.Invariant.{Inv, inv, resting, no_hand, the_one}
 use Rattle.bbt.proofs.Forms.{Sole, Missing, Sound, one_left}
 use Rattle.bbt.proofs.LeftPages.{Judged, Twin}
 use Rattle.bbt.proofs.Numbering.{tracked}

@@ -10,7 +10,8 @@ use native.Mathlib.Omega.{arith}
 use borrow.Author.Tests.{ne_eqb}
 use lib.ListN.{length}
 use Rattle.bbt.proofs.LeftPages.{Judged, judge}
-use Rattle.bbt.proofs.Planning.{plan_asked, update_reads, plan_ready}
+use Rattle.bbt.proofs.Planning.{plan_asked, update_reads}
+use Rattle.bbt.proofs.Ready.{plan_ready}
 use Rattle.bbt.proofs.PowerCuts.{demand3}
 use Rattle.bbt.proofs.Raw.{chip_valid}
 use Rattle.bbt.proofs.ToldSteps.{tells_steps}

@@ -1,4 +1,5 @@
 pub mod Tagging
+pub mod NearestTags
 pub mod Writables
 pub mod ReadBack
 pub mod WhyNotOurs

@@ -20,7 +20,7 @@ use Rattle.spare.specs.Claims.{Writable, spare_fields_of, SpareReadsBack}
 use Rattle.spare.specs.Reading.{magic_of, count_of, by_words, spare_answer}
 use Rattle.spare.specs.Status.{status_of}
 use Rattle.spare.specs.Writing.{magic_and_count, is_writable, spare_with, spare_of, write_answer, spare_after}
-use Rattle.spare.proofs.Tagging.{tag_table}
+use Rattle.spare.proofs.NearestTags.{tag_table}
 
 -- a protected word as it stands in a spare
 word_read : (n : ℕ) → n < 2 ^ 26

@@ -1,4 +1,4 @@
--- What the table of tags shows, by computed tests, and the laws of looking a tag up.
+-- The laws of looking a tag up, by computed tests.
 -- Assumes nothing.
 use mathlib.Core.Bool.{Bool, true, false, cond, ◌&&◌, ◌||◌, false≢true}
 use mathlib.Core.List.{List, [], ◌∷◌}
@@ -44,65 +44,13 @@ in_byte t h =
       ne_eqb 0x01 t (λ e. omega arith),
     )
 
-found_itself : (t : ℕ) (n : NearestTag) → is_itself t n ≡ true → n ≡ Found t
+pub found_itself : (t : ℕ) (n : NearestTag) → is_itself t n ≡ true → n ≡ Found t
 found_itself t (Found u) p = ap Found (eqb-true u t p)
 found_itself t Missing p = absurd (false≢true p)
 
-itself : (t : ℕ) → is_in tags t ≡ true → nearest tags t ≡ Found t
+pub itself : (t : ℕ) → is_in tags t ≡ true → nearest tags t ≡ Found t
 itself t e = go (ltb 255 t) refl
   where
     go : (b : Bool) → ltb 255 t ≡ b → nearest tags t ≡ Found t
     go true p = absurd (false≢true (sym (in_byte t (ltb-true 255 t p)) ∙ e))
     go false p = found_itself t (nearest tags t) (sym (in_nearest t (omega (arith, ltb-false 255 t p))) ∙ e)
-
--- ---- the nearest-tag rule
--- where u is near b, it is what b stands for
-abbrev near_is : ℕ → ℕ → Bool
-near_is b u = cond (leb (distance u b) 1) (is_itself u (nearest tags b)) true
-
--- so for each u of a list
-all_near : List ℕ → ℕ → Bool
-all_near [] b = true
-all_near (u ∷ us) b = near_is b u && all_near us b
-
--- for each tag and each byte, computed
-all_near_lem : T (all (all_near tags) 0 256)
-unfolding all_near nearest ones ones_in
-all_near_lem = tt
-
-near_in : (t b : ℕ) (us : List ℕ) → is_in us t ≡ true → all_near us b ≡ true → near_is b t ≡ true
-unfolding is_in all_near
-near_in t b [] e a = absurd (false≢true e)
-near_in t b (u ∷ us) e a = go (eqb u t) refl (near_in t b us)
-  where
-    go : (c : Bool) → eqb u t ≡ c → (is_in us t ≡ true → all_near us b ≡ true → near_is b t ≡ true) → near_is b t ≡ true
-    go true q rest = rw (← (eqb-true u t q)) (both_left (near_is b u) (all_near us b) a)
-    go false q rest = rest (rw q at e) (both_right (near_is b u) (all_near us b) a)
-
-near : (t b : ℕ) → b < 256 → is_in tags t ≡ true → distance t b ≤ 1 → nearest tags b ≡ Found t
-near t b h e d =
-    found_itself t (nearest tags b)
-    (rw (le-leb (distance t b) 1 d) at (near_in t b tags e (true_of (all_near tags b) (below (all_near tags) 256 all_near_lem b h))))
-
-only_in : (us : List ℕ) (t b : ℕ) → nearest us b ≡ Found t → (is_in us t ≡ true) × (distance t b ≤ 1)
-unfolding nearest is_in
-only_in [] t b e = let z : ◌≡◌ {A = ℕ} 0 1 = cc in absurd (omega arith)
-only_in (u ∷ us) t b e = go (leb (distance u b) 1) refl (only_in us t b)
-  where
-    or_right : (x y : Bool) → y ≡ true → (x || y) ≡ true
-    or_right true y f = refl
-    or_right false y f = f
-
-    go : (c : Bool) → leb (distance u b) 1 ≡ c → (nearest us b ≡ Found t → (is_in us t ≡ true) × (distance t b ≤ 1))
-        → (is_in (u ∷ us) t ≡ true) × (distance t b ≤ 1)
-    go true p rest =
-        let e' : Found u ≡ Found t = rw p at e in
-        let same : u ≡ t = cc in
-        (rw (eq-eqb u t same) refl, rw (← same) (leb-true (distance u b) 1 p))
-    go false p rest =
-        let r = rest (rw p at e) in
-        (or_right (eqb u t) (is_in us t) r.0, r.1)
-
-pub tag_table : TagTable
-unfolding all_apart apart_from bytes_found is_found nearest ones ones_in
-tag_table = record { apart = refl; counted = refl; refused = refl; itself = itself; near = near; only = only_in tags }

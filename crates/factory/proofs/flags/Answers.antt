@@ -3,7 +3,7 @@
 use mathlib.Core.List.{[], ◌∷◌}
 use native.Mathlib.Omega.{arith}
 use lib.Bits.{and_le_r}
-use Rattle.factory.proofs.SideBySide.{of_marks}
+use Rattle.factory.proofs.Judging.{of_marks}
 use Rattle.factory.proofs.flags.Goals as goal
 
 pub overflow_add-carried : goal.overflow_add-carried
