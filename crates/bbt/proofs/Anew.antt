@@ -1,30 +1,21 @@
 -- The plan made anew, once block b alone was touched: its target is none of the other blocks, and is fit, so the copy is held in it.
 -- Assumes nothing.
-use mathlib.Core.Bool.{true, false, true≢false}
-use mathlib.Core.List.{List, [], ◌∷◌, ◌++◌}
+use mathlib.Core.Bool.{false}
+use mathlib.Core.List.{List, ◌∷◌}
 use mathlib.Core.Logic.{◌⊎◌, inl, inr, ◌≢◌}
-use mathlib.Core.Option.{Option, none, some}
-use mathlib.Core.Path.{◌≡◌, refl, sym, ap, ◌∙◌}
-use Prim.Native.Nat.{ℕ, zero, suc, ◌<◌}
-use borrow.Author.Tests.{eq-eqb, ne_eqb}
-use Rattle.chip.specs.Large.{pages_of}
+use mathlib.Core.Path.{◌≡◌, sym, ◌∙◌}
+use Prim.Native.Nat.{ℕ}
 use Rattle.chip.specs.declared.LargeChip.{LargeChip}
-use Rattle.chip.specs.declared.Refusal.TheVariants.{NoTarget, ZeroFailed}
 use Rattle.bbt.specs.declared.Kind.{Kind}
-use Rattle.bbt.specs.declared.Kind.TheVariants.{Primary, Mirror}
 use Rattle.bbt.specs.Copies.{Table, reads_bad}
-use Rattle.bbt.specs.Failures.{other_block, moved, moved_to, block_fails, step_fails, failure, failures}
-use Rattle.bbt.specs.Histories.{Snapshot, snapshot, with_failed, answer}
-use Rattle.bbt.specs.Lent.{call_lent}
-use Rattle.bbt.specs.Pages.{View}
-use Rattle.bbt.specs.Plans.{Step, erase, write, zeros, Job, idle, single, double, Plan, writes, copy_steps, job_steps, zero_first, steps_of, step_at, Answer, refuse, plan, Call, plan_by_rules, member, target}
-use Rattle.bbt.specs.PowerCuts.{Retires, IfItFails}
+use Rattle.bbt.specs.Histories.{Snapshot, with_failed, answer}
+use Rattle.bbt.specs.Plans.{Step, zeros, Plan, Call, member}
+use Rattle.bbt.specs.PowerCuts.{IfItFails}
 use Rattle.bbt.specs.Regions.{Region, view}
 use Rattle.bbt.proofs.Forms.{Frame, frame_bad}
 use Rattle.bbt.proofs.LeftPages.{Judged}
-use Rattle.bbt.proofs.Numbering.{Tracked, from_at}
-use Rattle.bbt.proofs.Planning.{member_apart, in_force, plan_is, Target, target_is}
-use Rattle.bbt.proofs.Searches.{no_confusion}
+use Rattle.bbt.proofs.Numbering.{Tracked}
+use Rattle.bbt.proofs.Planning.{member_apart}
 use Rattle.bbt.proofs.Failing.{Turn, At, job_at, Held, Anew, at_answer, zeros_refused, doing_again, answered_by, zeros_answered}
 
 module _ {chip : LargeChip} (ok : Judged chip) where

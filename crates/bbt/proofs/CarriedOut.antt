@@ -4,7 +4,6 @@
 use mathlib.Core.Bool.{Bool, true, false, cond}
 use mathlib.Core.List.{List, [], ◌∷◌}
 use mathlib.Core.Logic.{◌≢◌}
-use mathlib.Core.Option.{Option, none, some}
 use mathlib.Core.Path.{◌≡◌, refl, sym, ap, ◌∙◌, subst}
 use Prim.Native.Nat.{ℕ, zero, suc, ◌+◌, ◌*◌}
 use native.Mathlib.Omega.{arith}
@@ -16,11 +15,11 @@ use Rattle.bbt.specs.declared.Kind.{Kind}
 use Rattle.bbt.specs.declared.Kind.TheVariants.{Primary, Mirror}
 use Rattle.bbt.specs.CarriedOut.{job_count, one_more, step_count, Carried, all_done, one_done, one_failed, ReadsAs, EndsSettled}
 use Rattle.bbt.specs.Copies.{Table}
-use Rattle.bbt.specs.Failures.{other_block, moved, moved_to, block_fails, step_fails, failure}
+use Rattle.bbt.specs.Failures.{failure}
 use Rattle.bbt.specs.Histories.{Snapshot, snapshot, with_failed, answer, asked}
 use Rattle.bbt.specs.Lent.{call_lent}
 use Rattle.bbt.specs.Pages.{View}
-use Rattle.bbt.specs.Plans.{Step, erase, write, zeros, Job, idle, single, double, Plan, fresh, writes, copy_steps, job_steps, zero_first, steps_of, step_at, Answer, refuse, plan, Reading, reading, holds, target, Call, for_update, plan_by_rules}
+use Rattle.bbt.specs.Plans.{Step, Job, idle, single, double, Plan, fresh, writes, copy_steps, job_steps, zero_first, steps_of, step_at, Answer, refuse, plan, Reading, reading, holds, Call, for_update, plan_by_rules}
 use Rattle.bbt.specs.Regions.{Region, view}
 use Rattle.bbt.proofs.Failing.{Turn, first_copy, last_copy, Doing, doing_second, doing_only, job_at, failures_more, Held, held_turn}
 use Rattle.bbt.proofs.Forms.{Sole, sole_clear, sole_in, sole_fit, sole_length, sole_apart}

@@ -1,31 +1,14 @@
 -- The invariant under demand 3 along a history, from its start.
 -- Assumes nothing.
-use mathlib.Core.Bool.{true, false, true≢false}
-use mathlib.Core.List.{List, [], ◌∷◌}
-use mathlib.Core.Logic.{◌≢◌}
-use mathlib.Core.Path.{◌≡◌, refl, sym, ap, ◌∙◌, subst}
-use Prim.Native.Nat.{ℕ, suc, ◌<◌}
-use native.Mathlib.Decide.{ℕ_discrete}
-use native.Mathlib.Omega.{arith}
-use lib.ListN.{length}
-use Rattle.chip.specs.Large.{bitmap_bytes, pages_of}
 use Rattle.chip.specs.declared.LargeChip.{LargeChip}
-use Rattle.bbt.specs.declared.Kind.{Kind}
-use Rattle.bbt.specs.declared.Kind.TheVariants.{Primary, Mirror}
-use Rattle.bbt.specs.Copies.{Table, good, table}
-use Rattle.bbt.specs.Histories.{OthersKept, Last, one_table, pending, closed, as_planned, NewPrimary, Closes, as_one, as_closed, was_complete, was_not, AfterStep, Snapshot, snapshot, with_failed, Hand, empty, holding, World, world, answer, asked, Event, plan_refused, update_planned, recovery_planned, step_done, step_cut, cut_between, step_failed, step_given_up, no_step_left, no_plan, History, start, next}
-use Rattle.bbt.specs.Plans.{Step, Job, single, Plan, fresh, job_steps, steps_of, copy_steps, plan, updated, recovery, Call, for_update, for_recovery, plan_by_rules}
-use Rattle.bbt.specs.PowerCuts.{NotGoodKept, Start, settled_at}
-use Rattle.bbt.specs.Regions.{Region, view}
-use Rattle.bbt.proofs.Failing.{first_copy, last_copy, job_at, held_turn}
-use Rattle.bbt.proofs.Forms.{Sole, Missing, Sound, twins, ahead, one_left, Whole, Frame, sole_same, sole_clear, sole_in, sole_fit, sole_length, sole_apart, sound_same, whole_copy}
-use Rattle.bbt.proofs.LeftPages.{Judged, Twin, primary_kind, mirror_kind}
-use Rattle.bbt.proofs.Numbering.{InHand, HandOf, Tracked, tracked, track_numbered}
-use Rattle.bbt.proofs.Outcomes.{complete_kept}
-use Rattle.bbt.proofs.Placing.{Did, did, Broke, broke, Placing, place_start, place_fill, place_retire, Remains, unchanged, lacks, whole}
-use Rattle.bbt.proofs.Planning.{News, Update, no_news, news, updates, next_differs, sole_table, reading_settled, plan_first, Asked, plan_asked, Ready, nothing_to_do, one_to_place, both_to_place, Of, recovers, sound_settled}
-use Rattle.bbt.proofs.Searches.{nowhere_find, only_find, Unique}
-use Rattle.bbt.proofs.Working.{first_primary, last_mirror, kinds, last_role, rest_of, Work, Worked, still, finished, work_first, work_frame, work_done, work_cut, work_failed, work_twin}
+use Rattle.bbt.specs.Copies.{Table}
+use Rattle.bbt.specs.Histories.{Last, Hand, World, world, Event, History, start, next}
+use Rattle.bbt.specs.PowerCuts.{Start, settled_at}
+use Rattle.bbt.specs.Regions.{Region}
+use Rattle.bbt.proofs.Forms.{twins}
+use Rattle.bbt.proofs.LeftPages.{Judged}
+use Rattle.bbt.proofs.Numbering.{InHand, HandOf, tracked}
+use Rattle.bbt.proofs.Planning.{reading_settled}
 use Rattle.bbt.proofs.Invariant.{Inv, inv, kept_on, kept_same, no_hand, resting, the_one}
 use Rattle.bbt.proofs.Events.{Next, event}
 

@@ -25,7 +25,7 @@ use Rattle.bbt.specs.Regions.{Region, view}
 use Rattle.bbt.proofs.Forms.{Frame, frame_bad}
 use Rattle.bbt.proofs.LeftPages.{Judged}
 use Rattle.bbt.proofs.Numbering.{Tracked, from_at}
-use Rattle.bbt.proofs.Planning.{member_apart, in_force, plan_is, Target, target_is}
+use Rattle.bbt.proofs.Planning.{in_force, plan_is, Target, target_is}
 use Rattle.bbt.proofs.Searches.{no_confusion}
 
 -- ---- the copy being written

@@ -25,7 +25,7 @@ use Rattle.bbt.specs.Histories.{Snapshot, snapshot, answer, asked}
 use Rattle.bbt.specs.Images.{plan_image}
 use Rattle.bbt.specs.Lent.{region_lent, statuses_right, call_lent, lent_plan, planned, imaged}
 use Rattle.bbt.specs.Pairs.{same, signed_of, difference, Case, no_pair, alone, settled, merging, differing, both_case, compared, case_of, copies, pair_case}
-use Rattle.bbt.specs.Plans.{Reading, refused, holds, read_case, reading, Job, idle, single, double, Plan, fresh, Answer, refuse, plan, next_version, updated, update_from, update, member, is_free, target, other_kind, recover_to, anded, recover_newer, recover_case, recovery, Call, for_update, for_recovery, plan_by_rules}
+use Rattle.bbt.specs.Plans.{Reading, refused, holds, read_case, reading, Job, idle, single, double, Plan, fresh, Answer, refuse, plan, next_version, updated, update_from, update, member, is_free, target, other_kind, recover_to, anded, recover_newer, recover_case, recovery, Call, for_update, plan_by_rules}
 use Rattle.bbt.specs.PowerCuts.{NotGoodKept}
 use Rattle.bbt.specs.Regions.{Region, view}
 use Rattle.bbt.proofs.Forms.{Sole, Missing, Clear, Room, Lacks, Sound, twins, ahead, one_left, sole_clear, sole_in, sole_fit, sole_length, sole_apart, missing_clear}

@@ -20,17 +20,15 @@ use Rattle.bbt.specs.Histories.{Written, Done, Cut, OthersKept, Last, one_table,
 use Rattle.bbt.specs.Images.{Imaged, page-image, page_image}
 use Rattle.bbt.specs.Pairs.{same}
 use Rattle.bbt.specs.Plans.{Step, erase, write, zeros, Call, for_update, Plan, steps_of, Answer, refuse, plan, updated, for_recovery}
-use Rattle.bbt.specs.Possible.{Bytes, Left, as_it_was, left_blank, left_complete, left_unreadable, left_zeroed, AnyLost, AnyZeroed, CutAllows, DoneAllows, IsLeft, AreLeft, CanFail, CanHappen, planning, stepping, Can, NoStep, NothingLeftOut}
+use Rattle.bbt.specs.Possible.{Bytes, Left, as_it_was, left_blank, left_complete, left_unreadable, left_zeroed, AnyLost, AnyZeroed, CutAllows, DoneAllows, IsLeft, AreLeft, CanFail, CanHappen, planning, stepping, Can, NoStep}
 use Rattle.bbt.specs.PowerCuts.{ImageOf, Harmless, region_of}
 use Rattle.bbt.specs.Regions.{Region, status_at, bytes_at, NotZeroed, Blank, Complete, Zeroed, Unreadable, Lost, Kept}
-use Rattle.bbt.proofs.LeftPages.{Judged, judge}
-use Rattle.bbt.proofs.Numbering.{started, tracked}
+use Rattle.bbt.proofs.LeftPages.{Judged}
 use Rattle.bbt.proofs.Outcomes.{kept_refl, kept_trans, complete_kept, blank_kept}
 use Rattle.bbt.proofs.Planning.{plan_asked, update_reads}
-use Rattle.bbt.proofs.PowerCuts.{demand3}
 use Rattle.bbt.proofs.Putting.{put_page}
 use Rattle.bbt.proofs.Searches.{no_confusion, below_suc, all_or_some, same_refl, same_eq}
-use Rattle.bbt.proofs.AllBytes.{below_replicate, bytes_append, bytes_replicate, bytes_take, bytes_drop, StepOfBytes, bytes_next, image_bytes}
+use Rattle.bbt.proofs.AllBytes.{below_replicate, bytes_append, bytes_replicate, bytes_take, bytes_drop, StepOfBytes, image_bytes}
 
 dec_list : (l m : List ℕ) → Dec (l ≡ m)
 dec_list l m = go (same l m) refl

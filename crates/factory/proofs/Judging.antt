@@ -1,15 +1,12 @@
 -- Which bytes of a number are not 0, all judged at once: no byte carries into the next.
 -- Assumes nothing.
-use mathlib.Core.Bool.{Bool, true, false, cond, ◌&&◌, ◌||◌}
 use mathlib.Core.List.{List, [], ◌∷◌}
 use mathlib.Core.Path.{◌≡◌, refl, ◌∙◌, ap, ap₂}
-use Prim.Native.Nat.{ℕ, zero, suc, ◌+◌, ◌*◌, ◌/◌, ◌%◌, ◌≤◌, ◌<◌}
+use Prim.Native.Nat.{ℕ, ◌+◌, ◌*◌, ◌/◌, ◌≤◌, ◌<◌}
 use native.Mathlib.Omega.{arith}
 use lib.Bits.{bit_and, bit_or, and_block, or_block, or_lt, and_le_r}
-use lib.Dec.{T, eqb, eqb→eq}
-use lib.ListN.{length}
-use Rattle.bits.proofs.Computed.{below, left, right}
-use Rattle.bbt.specs.Entries.{entries_byte, mark_entry}
+use lib.Dec.{eqb, eqb→eq}
+use Rattle.bits.proofs.Computed.{below}
 use Rattle.factory.specs.Marks.{lowest_first, flag}
 use Rattle.factory.proofs.SideBySide.{each, flags, Bytes, judged}
 

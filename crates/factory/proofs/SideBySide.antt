@@ -2,13 +2,13 @@
 -- Assumes nothing.
 use mathlib.Core.Bool.{Bool, true, false, cond, ◌&&◌, ◌||◌}
 use mathlib.Core.List.{List, [], ◌∷◌}
-use mathlib.Core.Path.{◌≡◌, refl, ◌∙◌, ap, ap₂}
+use mathlib.Core.Path.{◌≡◌, refl, ◌∙◌}
 use Prim.Native.Nat.{ℕ, zero, suc, ◌+◌, ◌*◌, ◌/◌, ◌%◌, ◌≤◌, ◌<◌}
 use native.Mathlib.Omega.{arith}
-use lib.Bits.{bit_and, bit_or, and_block, or_block, or_lt, and_le_r}
+use lib.Bits.{bit_and, bit_or, and_le_r}
 use lib.Dec.{T, eqb, eqb→eq}
 use lib.ListN.{length}
-use Rattle.bits.proofs.Computed.{below, left, right}
+use Rattle.bits.proofs.Computed.{left, right}
 use Rattle.bbt.specs.Entries.{entries_byte, mark_entry}
 use Rattle.factory.specs.Marks.{lowest_first, flag}
 

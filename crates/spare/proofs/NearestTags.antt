@@ -2,18 +2,15 @@
 -- Assumes nothing.
 use mathlib.Core.Bool.{Bool, true, false, cond, ◌&&◌, ◌||◌, false≢true}
 use mathlib.Core.List.{List, [], ◌∷◌}
-use mathlib.Core.Path.{◌≡◌, refl, ◌∙◌, ap, sym}
-use Prim.Native.Nat.{ℕ, suc, ◌<◌, ◌≤◌}
+use mathlib.Core.Path.{◌≡◌, refl}
+use Prim.Native.Nat.{ℕ, ◌<◌, ◌≤◌}
 use native.Mathlib.Omega.{arith}
-use borrow.Author.Tests.{eq-eqb, eqb-true, le-leb, leb-true, ltb-false, ltb-true, ne_eqb}
+use borrow.Author.Tests.{eq-eqb, eqb-true, le-leb, leb-true}
 use lib.Count.{ones, ones_in}
-use lib.Dec.{T, eqb, leb, ltb}
-use lib.ListN.{drop, get_or}
-use lib.Seq.{drop-cons}
+use lib.Dec.{T, eqb, leb}
 use Rattle.bits.proofs.Both.{both_left, both_right}
-use Rattle.bits.proofs.Computed.{all, below, same, same→eq, true_of}
-use Rattle.spare.specs.declared.NearestTag.{NearestTag}
-use Rattle.spare.specs.declared.NearestTag.TheVariants.{Found, Missing}
+use Rattle.bits.proofs.Computed.{all, below, true_of}
+use Rattle.spare.specs.declared.NearestTag.TheVariants.{Found}
 use Rattle.spare.specs.Tags.{tags, distance, nearest, is_in, apart_from, all_apart, is_found, bytes_found, TagTable}
 use Rattle.spare.proofs.Tagging.{is_itself, found_itself, itself}
 

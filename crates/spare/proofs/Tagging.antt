@@ -1,20 +1,18 @@
 -- The laws of looking a tag up, by computed tests.
 -- Assumes nothing.
-use mathlib.Core.Bool.{Bool, true, false, cond, ◌&&◌, ◌||◌, false≢true}
-use mathlib.Core.List.{List, [], ◌∷◌}
+use mathlib.Core.Bool.{Bool, true, false, cond, false≢true}
 use mathlib.Core.Path.{◌≡◌, refl, ◌∙◌, ap, sym}
-use Prim.Native.Nat.{ℕ, suc, ◌<◌, ◌≤◌}
+use Prim.Native.Nat.{ℕ, suc, ◌<◌}
 use native.Mathlib.Omega.{arith}
-use borrow.Author.Tests.{eq-eqb, eqb-true, le-leb, leb-true, ltb-false, ltb-true, ne_eqb}
+use borrow.Author.Tests.{eqb-true, ltb-false, ltb-true, ne_eqb}
 use lib.Count.{ones, ones_in}
-use lib.Dec.{T, eqb, leb, ltb}
+use lib.Dec.{eqb, leb, ltb}
 use lib.ListN.{drop, get_or}
 use lib.Seq.{drop-cons}
-use Rattle.bits.proofs.Both.{both_left, both_right}
-use Rattle.bits.proofs.Computed.{all, below, same, same→eq, true_of}
+use Rattle.bits.proofs.Computed.{below, same, same→eq}
 use Rattle.spare.specs.declared.NearestTag.{NearestTag}
 use Rattle.spare.specs.declared.NearestTag.TheVariants.{Found, Missing}
-use Rattle.spare.specs.Tags.{tags, distance, nearest, is_in, apart_from, all_apart, is_found, bytes_found, TagTable}
+use Rattle.spare.specs.Tags.{tags, distance, nearest, is_in}
 
 -- one tag more: the table from i on is its head and the table from i + 1 on
 pub nearest_next : (b i : ℕ) → i < 7
