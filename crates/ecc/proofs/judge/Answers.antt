@@ -34,6 +34,6 @@ returns c =
     simp (
       ← c.count_set-set.ensures,
       ne_eqb _ _ c.if-set-eq0.false,
-      ne_eqb _ _ c.if-set-eq1.false,
+      ne_eqb c.count_set-set.result 1 c.if-set-eq1.false,
       sym c.one_in_each.ensures ∙ c.if-one_in_each.false,
     )
