@@ -1,4 +1,4 @@
--- What ream_first_bitmap leaves is the first bitmap, whose entries are those of the blocks' marks (`first_entry`, crate `factory`).
+-- What ream_first_bitmap leaves is the first bitmap, whose entries are those of the blocks' marks (`first_entry_lem`, crate `factory`).
 -- Assumes nothing.
 use mathlib.Core.List.{List}
 use mathlib.Core.Path.{◌≡◌, refl, ◌∙◌, ap}
