@@ -1,5 +1,6 @@
 -- Demand 2 for pages: what may be written is written, and reads back as the same fields; in a page otherwise as written, one flipped bit
--- in a half, among its 256 bytes or their 22 code bits, still gives the data as written, and two are refused, whatever the other half has.
+-- in a half, among its 256 bytes or their 22 code bits, still gives the data as written and is told by its place, and two are refused,
+-- whatever the other half has.
 use Rattle.std.specs.Prelude.{cond, List, [], ◌∷◌, ◌≡◌, ℕ, ◌+◌, ◌-◌, ltb}
 use Rattle.bits.specs.Bytes.{flip_at}
 use Rattle.chip.specs.declared.Half.{Half}

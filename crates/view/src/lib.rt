@@ -1,6 +1,5 @@
-// A view of a lent region image: a struct that holds the image itself, and thin functions over it, proved by hand. Asked for a
-// page, it leaves the work to functions of `oob` with plain parameters, and hands back one struct. `answer_of` and `oob_of`
-// make a view for one question: their callers have none in hand, and so no proof by hand.
+// A view of a lent region image: a struct that holds the image itself, and thin functions over it. Asked for a page, it leaves the
+// work to functions of `oob` with plain parameters, and hands back one struct. `answer_of` and `oob_of` make a view for one question.
 #![tactic(auto)]
 
 ghost use Rattle.std.specs.Prelude.{◌≡◌, length};

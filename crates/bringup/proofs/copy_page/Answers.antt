@@ -20,11 +20,10 @@ overflow_cast-version c =
 
 pub returns-then-is_copy_page : goal.returns-then-is_copy_page
 returns-then-is_copy_page c =
-    let both =
     let is = sym c.is_copy_page.ensures ∙ c.if-is_copy_page.true in
-    made_page c.args.chip c.args.kind c.args.version c.args.number is c.args.bitmap.now c.args.page.now
-    c.kind_numbered.ensures c.chunk_of-part.ensures c.requires c.page_image.ensures
-    in record { answer = both.0; out = both.1 }
+    let both = made_page c.args.chip c.args.kind c.args.version c.args.number is c.args.bitmap.now c.args.page.now
+    c.kind_numbered.ensures c.chunk_of-part.ensures c.requires c.page_image.ensures in
+    record { answer = both.0; out = both.1 }
 
 pub returns : goal.returns
 unfolding copy_image

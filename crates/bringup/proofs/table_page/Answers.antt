@@ -9,24 +9,21 @@ use Rattle.bringup.proofs.table_page.Goals as goal
 
 pub returns-then-page-ne-PAGE_WITH_OOB : goal.returns-then-page-ne-PAGE_WITH_OOB
 returns-then-page-ne-PAGE_WITH_OOB c =
-    let both =
     let a = c.args in
-    told a.n a.size a.bitmap.now a.kind a.version a.number a.page.now (no_image Length) (no_room a.n a.size a.bitmap.now a.kind a.version a.number a.page.now c.in-Chip.chip (cc) c.if-page-ne-PAGE_WITH_OOB.true)
-    in record { answer = both.0; out = both.1 }
+    let both = told a.n a.size a.bitmap.now a.kind a.version a.number a.page.now (no_image Length) (no_room a.n a.size a.bitmap.now a.kind a.version a.number a.page.now c.in-Chip.chip (cc) c.if-page-ne-PAGE_WITH_OOB.true) in
+    record { answer = both.0; out = both.1 }
 
 pub returns-then-bitmap-bitmap_bytes : goal.returns-then-bitmap-bitmap_bytes
 returns-then-bitmap-bitmap_bytes c =
-    let both =
     let a = c.args in
-    told a.n a.size a.bitmap.now a.kind a.version a.number a.page.now (no_image Length) (no_bitmap a.n a.size a.bitmap.now a.kind a.version a.number a.page.now c.in-Chip.chip (cc) c.if-page-ne-PAGE_WITH_OOB.false (λ e. c.if-bitmap-bitmap_bytes.true (e ∙ sym c.bitmap_bytes.ensures)))
-    in record { answer = both.0; out = both.1 }
+    let both = told a.n a.size a.bitmap.now a.kind a.version a.number a.page.now (no_image Length) (no_bitmap a.n a.size a.bitmap.now a.kind a.version a.number a.page.now c.in-Chip.chip (cc) c.if-page-ne-PAGE_WITH_OOB.false (λ e. c.if-bitmap-bitmap_bytes.true (e ∙ sym c.bitmap_bytes.ensures))) in
+    record { answer = both.0; out = both.1 }
 
 pub returns-in-Refused : goal.returns-in-Refused
 returns-in-Refused c =
-    let both =
     let a = c.args in
-    told a.n a.size a.bitmap.now a.kind a.version a.number a.page.now (no_image c.in-Refused.r) (refused_page a.n a.size a.bitmap.now a.kind a.version a.number a.page.now c.in-Refused.r (cc))
-    in record { answer = both.0; out = both.1 }
+    let both = told a.n a.size a.bitmap.now a.kind a.version a.number a.page.now (no_image c.in-Refused.r) (refused_page a.n a.size a.bitmap.now a.kind a.version a.number a.page.now c.in-Refused.r (cc)) in
+    record { answer = both.0; out = both.1 }
 
 pub returns-else-bitmap-bitmap_bytes : goal.returns-else-bitmap-bitmap_bytes
 returns-else-bitmap-bitmap_bytes c =

@@ -16,17 +16,15 @@ slice_bounds-copy-end-in-Block c = zero_room c.args.chip _ _ c.in-Block.is c.req
 
 pub returns-in-Nothing : goal.returns-in-Nothing
 returns-in-Nothing c =
-    let both =
-    no_zero c.args.chip c.args.steps.now c.in-Nothing.is
-    in record { count = both.0; out = both.1 }
+    let both = no_zero c.args.chip c.args.steps.now c.in-Nothing.is in
+    record { count = both.0; out = both.1 }
 
 pub returns-in-Block : goal.returns-in-Block
 returns-in-Block c =
-    let both =
     let a = c.args in
     let four = c.step_bytes-four.ensures ∙ ap (λ (b : ChipBlock). step_bytes (Zero b)) c.chip_block.ensures in
     let put = c.copy.ensures ∙ ap (λ (x : List ℕ). copied x (mid_of 0 4 a.steps.now)) four in
     let retired = c.in-Block.is in
     let room = zero_room a.chip _ _ retired c.requires in
-    zero_put a.chip _ a.steps.now _ room retired put
-    in record { count = both.0; out = both.1 }
+    let both = zero_put a.chip _ a.steps.now _ room retired put in
+    record { count = both.0; out = both.1 }

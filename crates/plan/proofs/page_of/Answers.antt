@@ -9,11 +9,10 @@ page_by-requires c = let pre = c.requires in (pre.0, pre.2)
 
 pub returns-then-failed-eq0 : goal.returns-then-failed-eq0
 returns-then-failed-eq0 c =
-    let both =
     let a = c.args in
     let first = first_told a.chip a.image.now a.wanted.now _ a.work a.failed.now a.step _ c.if-failed-eq0.true c.plan_of-first.ensures in
-    by_same a.page.now (c.page_by.ensures.answer, c.page_by.ensures.out) first
-    in record { answer = both.0; out = both.1 }
+    let both = by_same a.page.now (c.page_by.ensures.answer, c.page_by.ensures.out) first in
+    record { answer = both.0; out = both.1 }
 
 pub plan_after-after-requires : goal.plan_after-after-requires
 plan_after-after-requires c = let pre = c.requires in (pre.0, pre.1)
@@ -23,8 +22,7 @@ page_by-requires-2 c = let pre = c.requires in (pre.0, pre.2)
 
 pub returns : goal.returns
 returns c =
-    let both =
     let a = c.args in
     let after = after_told a.chip a.image.now a.wanted.now _ a.work a.failed.now a.step _ c.plan_after-after.ensures in
-    by_same a.page.now (c.page_by-2.ensures.answer, c.page_by-2.ensures.out) after
-    in record { answer = both.0; out = both.1 }
+    let both = by_same a.page.now (c.page_by-2.ensures.answer, c.page_by-2.ensures.out) after in
+    record { answer = both.0; out = both.1 }

@@ -13,15 +13,13 @@ page_of-requires c =
 
 pub returns-in-Refused : goal.returns-in-Refused
 returns-in-Refused c =
-    let both =
     let a = c.args in
-    page_out for_recovery a.n a.size a.image.now a.status.now a.failed.now a.step a.page.now _ (sym c.page_case.ensures ∙ c.in-Refused.is)
-    in record { answer = both.0; out = both.1 }
+    let both = page_out for_recovery a.n a.size a.image.now a.status.now a.failed.now a.step a.page.now _ (sym c.page_case.ensures ∙ c.in-Refused.is) in
+    record { answer = both.0; out = both.1 }
 
 pub returns-in-Case : goal.returns-in-Case
 returns-in-Case c =
-    let both =
     let a = c.args in
     let is = sym c.page_case.ensures ∙ c.in-Case.is in
-    page_work for_recovery a.n a.size a.image.now a.status.now a.failed.now a.step a.page.now _ _ is _ c.recovery_work-work.ensures (c.page_of.ensures.answer, c.page_of.ensures.out)
-    in record { answer = both.0; out = both.1 }
+    let both = page_work for_recovery a.n a.size a.image.now a.status.now a.failed.now a.step a.page.now _ _ is _ c.recovery_work-work.ensures (c.page_of.ensures.answer, c.page_of.ensures.out) in
+    record { answer = both.0; out = both.1 }

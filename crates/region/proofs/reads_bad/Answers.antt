@@ -48,18 +48,15 @@ module _ (s : ℕ) (l : List ℕ) where
   unfolding bad_page
   zeros_decide e = rw e
 
--- the block's first page: its number, its bytes and its status byte. It decides
-module _ (chip : LargeChip) (image status : List ℕ) (b pages : ℕ) (is : pages ≡ pages_of chip) where
-  abbrev page : List ℕ
-  page = page_bytes image (b * pages)
+-- the block's first page decides, and its OOB byte 0 stands in the image
+decides : (chip : LargeChip) {pages : ℕ} (image status : List ℕ) (b : ℕ) → pages ≡ pages_of chip
+    → reads_bad (seen chip image status) b ≡ bad_page 0 (page_status status (b * pages)) (page_bytes image (b * pages))
+decides chip image status b is =
+    reads_bad_raw chip image status b
+    ∙ ap (λ (n : ℕ). bad_page 0 (page_status status (b * n)) (page_bytes image (b * n))) (sym is)
 
-  decides : reads_bad (seen chip image status) b ≡ bad_page 0 (page_status status (b * pages)) page
-  decides =
-      reads_bad_raw chip image status b
-      ∙ ap (λ (n : ℕ). bad_page 0 (page_status status (b * n)) (page_bytes image (b * n))) (sym is)
-
-  mark : eqb (get_or page 2048 0) 0 ≡ eqb (get_or image (b * pages * 2112 + 2048) 0) 0
-  mark = ap (λ (x : ℕ). eqb x 0) (page_byte image (b * pages) 2048 (omega arith))
+mark : (image : List ℕ) (first : ℕ) → eqb (get_or (page_bytes image first) 2048 0) 0 ≡ eqb (get_or image (first * 2112 + 2048) 0) 0
+mark image first = ap (λ (x : ℕ). eqb x 0) (page_byte image first 2048 (omega arith))
 
 pub overflow_mul-first : goal.overflow_mul-first
 overflow_mul-first c = let first = first_inside c.requires.0 c.args.b.0 c.pages.ensures c.requires.1 in omega arith
@@ -74,7 +71,10 @@ pub bounds-image-first : goal.bounds-image-first
 bounds-image-first c = let first = first_inside c.requires.0 c.args.b.0 c.pages.ensures c.requires.1 in omega arith
 
 pub returns-then-image-first-ne0 : goal.returns-then-image-first-ne0
-returns-then-image-first-ne0 c = sym (decides c.args.chip c.args.image.now c.args.status.now c.args.b.0 c.pages.result c.pages.ensures ∙ byte_clears _ (page c.args.chip c.args.image.now c.args.status.now c.args.b.0 c.pages.result c.pages.ensures) (mark c.args.chip c.args.image.now c.args.status.now c.args.b.0 c.pages.result c.pages.ensures ∙ ne_eqb _ _ c.if-image-first-ne0.true))
+returns-then-image-first-ne0 c =
+    let a = c.args in
+    let first = page_bytes a.image.now (a.b.0 * c.pages.result) in
+    sym (decides a.chip a.image.now a.status.now a.b.0 c.pages.ensures ∙ byte_clears _ first (mark a.image.now _ ∙ ne_eqb _ _ c.if-image-first-ne0.true))
 
 pub bounds-status-first : goal.bounds-status-first
 bounds-status-first c = let first = first_inside c.requires.0 c.args.b.0 c.pages.ensures c.requires.1 in omega arith
@@ -84,18 +84,22 @@ kind_at-requires c = let first = first_inside c.requires.0 c.args.b.0 c.pages.en
 
 pub returns-then-signature : goal.returns-then-signature
 returns-then-signature c =
-    let neither = told_neither (kind_of (page c.args.chip c.args.image.now c.args.status.now c.args.b.0 c.pages.result c.pages.ensures)) (c.signature.ensures ∙ ap kind_word c.kind_at.ensures) c.signature-then-status-first-eq0.ensures in
-    sym (decides c.args.chip c.args.image.now c.args.status.now c.args.b.0 c.pages.result c.pages.ensures ∙ neither_marks _ (page c.args.chip c.args.image.now c.args.status.now c.args.b.0 c.pages.result c.pages.ensures) (eq-eqb _ _ c.if-status-first-eq0.true) (neither ∙ eq-eqb _ _ c.if-signature.true) (mark c.args.chip c.args.image.now c.args.status.now c.args.b.0 c.pages.result c.pages.ensures ∙ eq-eqb _ _ c.if-image-first-ne0.false))
+    let a = c.args in
+    let first = page_bytes a.image.now (a.b.0 * c.pages.result) in
+    let neither = told_neither (kind_of first) (c.signature.ensures ∙ ap kind_word c.kind_at.ensures) c.signature-then-status-first-eq0.ensures in
+    sym (decides a.chip a.image.now a.status.now a.b.0 c.pages.ensures ∙ neither_marks _ first (eq-eqb _ _ c.if-status-first-eq0.true) (neither ∙ eq-eqb _ _ c.if-signature.true) (mark a.image.now _ ∙ eq-eqb _ _ c.if-image-first-ne0.false))
 
 pub zero_oob-requires : goal.zero_oob-requires
 zero_oob-requires c = let first = first_inside c.requires.0 c.args.b.0 c.pages.ensures c.requires.1 in omega arith
 
 pub returns : goal.returns
 returns c =
-    let unmarked : bad_mark _ (page c.args.chip c.args.image.now c.args.status.now c.args.b.0 c.pages.result c.pages.ensures) ≡ false
+    let a = c.args in
+    let first = page_bytes a.image.now (a.b.0 * c.pages.result) in
+    let unmarked : bad_mark _ first ≡ false
     = elim c.if-status-first-eq0.branch [
       | then-status-first-eq0+else-signature w ↦
-          signed_unmarked _ (page c.args.chip c.args.image.now c.args.status.now c.args.b.0 c.pages.result c.pages.ensures) (told_neither (kind_of (page c.args.chip c.args.image.now c.args.status.now c.args.b.0 c.pages.result c.pages.ensures)) (w.signature.ensures ∙ ap kind_word w.kind_at.ensures) w.signature-then-status-first-eq0.ensures ∙ ne_eqb _ _ w.if-signature.false)
-      | else-status-first-eq0 w ↦ unread_unmarked _ (page c.args.chip c.args.image.now c.args.status.now c.args.b.0 c.pages.result c.pages.ensures) (ne_eqb _ _ w.if-status-first-eq0.false)
+          signed_unmarked _ first (told_neither (kind_of first) (w.signature.ensures ∙ ap kind_word w.kind_at.ensures) w.signature-then-status-first-eq0.ensures ∙ ne_eqb _ _ w.if-signature.false)
+      | else-status-first-eq0 w ↦ unread_unmarked _ first (ne_eqb _ _ w.if-status-first-eq0.false)
     ] in
-    c.zero_oob.ensures ∙ sym (decides c.args.chip c.args.image.now c.args.status.now c.args.b.0 c.pages.result c.pages.ensures ∙ zeros_decide _ (page c.args.chip c.args.image.now c.args.status.now c.args.b.0 c.pages.result c.pages.ensures) unmarked)
+    c.zero_oob.ensures ∙ sym (decides a.chip a.image.now a.status.now a.b.0 c.pages.ensures ∙ zeros_decide _ first unmarked)

@@ -16,9 +16,9 @@ use Rattle.table.proofs.Copying.{part_size, copy_next}
 use Rattle.table.proofs.copy_bitmap.Goals as goal
 
 -- the bytes of page p's part
-size : (chip : LargeChip) (image : List ℕ) → chip.region * pages_of chip * 2112 ≤ length image → (b p pages : ℕ) (bytes : List ℕ) → b < chip.region
+size : (chip : LargeChip) (image : List ℕ) {bytes : List ℕ} {b p pages : ℕ} → chip.region * pages_of chip * 2112 ≤ length image → b < chip.region
     → pages ≡ pages_of chip → p < pages → bytes ≡ part_of chip image b p → length bytes ≡ part_length chip p
-size chip image room b p pages bytes hb e h is =
+size chip image {b = b} {p = p} room hb e h is =
     let here : p < pages_of chip = omega arith in
     ap length is ∙ part_size chip image room b p hb here
 
@@ -27,10 +27,10 @@ unfolding stored_parts
 loop-p-init c = (omega arith, omega arith, c.requires.4, refl)
 
 pub overflow_add-end : goal.overflow_add-end
-overflow_add-end c = omega (arith, size c.args.chip c.args.image.now c.requires.0 c.args.b.0 c.loop-p.p _ _ c.requires.3 c.pages-pages.ensures c.loop-p-test.true c.part-bytes.ensures)
+overflow_add-end c = omega (arith, size c.args.chip c.args.image.now c.requires.0 c.requires.3 c.pages-pages.ensures c.loop-p-test.true c.part-bytes.ensures)
 
 pub slice_bounds-copy-end : goal.slice_bounds-copy-end
-slice_bounds-copy-end c = omega (arith, size c.args.chip c.args.image.now c.requires.0 c.args.b.0 c.loop-p.p _ _ c.requires.3 c.pages-pages.ensures c.loop-p-test.true c.part-bytes.ensures)
+slice_bounds-copy-end c = omega (arith, size c.args.chip c.args.image.now c.requires.0 c.requires.3 c.pages-pages.ensures c.loop-p-test.true c.part-bytes.ensures)
 
 pub overflow_add-p : goal.overflow_add-p
 overflow_add-p c = omega (arith, c.pages-pages.ensures)
@@ -42,9 +42,9 @@ loop-p-preserved c =
     let loop = c.loop-p in
     let bytes = c.part-bytes.result.now in
     let here : loop.p < pages_of a.chip = omega (arith, c.pages-pages.ensures) in
-    let inside : loop.from + length bytes ≤ length loop.out = omega (arith, size c.args.chip c.args.image.now c.requires.0 c.args.b.0 c.loop-p.p _ _ c.requires.3 c.pages-pages.ensures c.loop-p-test.true c.part-bytes.ensures) in (
+    let inside : loop.from + length bytes ≤ length loop.out = omega (arith, size c.args.chip c.args.image.now c.requires.0 c.requires.3 c.pages-pages.ensures c.loop-p-test.true c.part-bytes.ensures) in (
       omega arith,
-      omega (arith, size c.args.chip c.args.image.now c.requires.0 c.args.b.0 c.loop-p.p _ _ c.requires.3 c.pages-pages.ensures c.loop-p-test.true c.part-bytes.ensures),
+      omega (arith, size c.args.chip c.args.image.now c.requires.0 c.requires.3 c.pages-pages.ensures c.loop-p-test.true c.part-bytes.ensures),
       same_len_mid loop.from (loop.from + length bytes - loop.from) loop.out c.copy.new.to c.copy.auto.to ∙ loop.invariant.2,
       ap (λ (l : List ℕ). take (loop.from + length bytes) (put_mid loop.from (loop.from + length bytes - loop.from) loop.out l)) c.copy.ensures
           ∙ copy_next a.chip a.image.now pre.0 a.b.0 loop.p pre.3 here loop.out bytes loop.from c.part-bytes.ensures inside loop.invariant.3,

@@ -76,26 +76,23 @@ copy_bitmap-requires c =
 
 pub returns-in-Refused : goal.returns-in-Refused
 returns-in-Refused c =
-    let both =
     let a = c.args in
-    told_out a.n a.size a.image.now a.status.now a.bitmap.now _ (sym c.case_of.ensures ∙ c.in-Refused.is)
-    in record { answer = both.0; out = both.1 }
+    let both = told_out a.n a.size a.image.now a.status.now a.bitmap.now _ (sym c.case_of.ensures ∙ c.in-Refused.is) in
+    record { answer = both.0; out = both.1 }
 
 pub returns-in-Refused-c : goal.returns-in-Refused-c
 unfolding read_case
 returns-in-Refused-c c =
-    let both =
     let a = c.args in
-    told-case a.n a.size a.image.now a.status.now a.bitmap.now _ _ _ (sym c.case_of.ensures ∙ c.in-Case.is) c.in-Refused-c.is _ known_reading
-    in record { answer = both.0; out = both.1 }
+    let both = told-case a.n a.size a.image.now a.status.now a.bitmap.now _ _ _ (sym c.case_of.ensures ∙ c.in-Case.is) c.in-Refused-c.is _ known_reading in
+    record { answer = both.0; out = both.1 }
 
 pub returns-in-Alone : goal.returns-in-Alone
 unfolding read_case
 returns-in-Alone c =
-    let both =
     let a = c.args in
-    told-case a.n a.size a.image.now a.status.now a.bitmap.now _ _ _ (sym c.case_of.ensures ∙ c.in-Case.is) c.in-Alone.is _ known_reading
-    in record { answer = both.0; out = both.1 }
+    let both = told-case a.n a.size a.image.now a.status.now a.bitmap.now _ _ _ (sym c.case_of.ensures ∙ c.in-Case.is) c.in-Alone.is _ known_reading in
+    record { answer = both.0; out = both.1 }
 
 pub returns-in-Settled : goal.returns-in-Settled
 returns-in-Settled c =
@@ -115,15 +112,13 @@ returns-in-Settled c =
 pub returns-in-Merging : goal.returns-in-Merging
 unfolding read_case
 returns-in-Merging c =
-    let both =
     let a = c.args in
-    told-case a.n a.size a.image.now a.status.now a.bitmap.now _ _ _ (sym c.case_of.ensures ∙ c.in-Case.is) c.in-Merging.is _ known_reading
-    in record { answer = both.0; out = both.1 }
+    let both = told-case a.n a.size a.image.now a.status.now a.bitmap.now _ _ _ (sym c.case_of.ensures ∙ c.in-Case.is) c.in-Merging.is _ known_reading in
+    record { answer = both.0; out = both.1 }
 
 pub returns-in-Differing : goal.returns-in-Differing
 unfolding read_case
 returns-in-Differing c =
-    let both =
     let a = c.args in
-    told-case a.n a.size a.image.now a.status.now a.bitmap.now _ _ _ (sym c.case_of.ensures ∙ c.in-Case.is) c.in-Differing.is _ known_reading
-    in record { answer = both.0; out = both.1 }
+    let both = told-case a.n a.size a.image.now a.status.now a.bitmap.now _ _ _ (sym c.case_of.ensures ∙ c.in-Case.is) c.in-Differing.is _ known_reading in
+    record { answer = both.0; out = both.1 }
