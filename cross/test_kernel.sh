@@ -43,7 +43,7 @@ x86_64-kernel)
 	floating='^(f|emms|cvt|ldmxcsr|stmxcsr|xsave|xrstor|v[a-z])'
 	below='-0x[0-9a-f]+\(%[re]sp'
 	indirect='^(notrack |bnd )?(jmp|call)[a-z]* +\*'
-	relocations='R_X86_64_(PLT32|PC32|32S)'
+	relocations='R_X86_64_(PLT32|PC32)'
 	;;
 aarch64-kernel)
 	tools=${AARCH64:-aarch64-linux-gnu-}
@@ -79,8 +79,9 @@ none 'a jump or call that is not direct' "$indirect"
 [ "$(awk '{ print $2 + $3 }' "$work/size")" -eq 0 ] || fail 'has data'
 
 if [ "${folder##*/}" = x86_64-kernel ]; then
-	group=$(sed -n 's/^attributes \(#[0-9]*\) = { .*noredzone.*/\1/p' "$folder/module.ll")
-	! grep '^define ' "$folder/module.ll" | grep -qv " ${group:-none} {\$" || fail 'has functions without noredzone'
+	sed -n 's/^attributes \(#[0-9]*\) = { .*noredzone.*/\1/p' "$folder/module.ll" | sort > "$work/noredzone"
+	grep '^define ' "$folder/module.ll" | sed 's/.* \(#[0-9]*\) {$/\1/' | sort -u > "$work/used"
+	[ -z "$(comm -13 "$work/noredzone" "$work/used")" ] || fail 'has functions without noredzone'
 fi
 
 [ "$failures" -eq 0 ] || exit 1

@@ -1,6 +1,7 @@
 -- What is seen of a page that was left blank, complete, unreadable, with zeros or as it was; and what is seen of a good copy: its table has N/4 bytes
 -- and its version is a byte. Of the laws under demand 3 these alone look at bytes.
 -- Assumes nothing.
+use Rattle.std.specs.Prelude.{Ok}
 use mathlib.Core.Bool.{Bool, true, false, ◌&&◌, cond, false≢true}
 use mathlib.Core.List.{List, ◌++◌}
 use mathlib.Core.Logic.{◌⊎◌, inl, inr, ◌≢◌}
@@ -14,7 +15,6 @@ use lib.Seq.{take-take, take_at, drop-append-add, get_or-drop}
 use Rattle.bits.proofs.Both.{or_true}
 use Rattle.bits.specs.Bytes.{word}
 use Rattle.chip.specs.Large.{chip_of, bitmap_bytes, pages_of}
-use Rattle.chip.specs.declared.ChipAnswer.TheVariants.{Chip}
 use Rattle.chip.specs.declared.LargeChip.{LargeChip}
 use Rattle.bbt.specs.declared.Kind.{Kind}
 use Rattle.bbt.specs.declared.Kind.TheVariants.{Primary, Mirror, Neither}
@@ -27,12 +27,12 @@ use Rattle.bbt.proofs.Searches.{all_intro, all_at, all_not}
 
 -- ---- the chip
 pub record Judged (chip : LargeChip) : Type 0 where
-  pub is-chip : chip_of chip.blocks chip.region ≡ Chip chip
+  pub is-chip : chip_of chip.blocks chip.region ≡ Ok chip
   pub some_page : 0 < pages_of chip
   pub fours : chip.blocks % 4 ≡ 0
   pub within : chip.region ≤ chip.blocks
 
-pub judge : (n size : ℕ) (chip : LargeChip) → chip_of n size ≡ Chip chip → Judged chip
+pub judge : (n size : ℕ) (chip : LargeChip) → chip_of n size ≡ Ok chip → Judged chip
 judge n size chip e =
     let v : Valid n size chip = chip_valid n size chip e in
     record {

@@ -1,6 +1,7 @@
 -- The plan in hand, throughout a history: the steps left are those from the next step's number on, of the plan that the library gives from
 -- the snapshot and the failed steps. So the next step is the told step of that number, and the page image asked for by that number is its page.
 -- Assumes nothing.
+use Rattle.std.specs.Prelude.{Some}
 use mathlib.Core.List.{List, [], ◌∷◌, map}
 use mathlib.Core.Option.{some}
 use mathlib.Core.Path.{◌≡◌, refl, ap, ◌∙◌}
@@ -32,11 +33,11 @@ from_next [] (suc i) h = absurd (no_confusion (cc))
 from_next (x ∷ xs) zero h = cc
 from_next (x ∷ xs) (suc i) h = from_next xs i h
 
-from_told : (f : Step → ToldStep) (l : List Step) (i : ℕ) {e : Step} {es : List Step} → steps_from l i ≡ e ∷ es → nth_step (map f l) i ≡ f e
+from_told : (f : Step → ToldStep) (l : List Step) (i : ℕ) {e : Step} {es : List Step} → steps_from l i ≡ e ∷ es → nth_step (map f l) i ≡ Some (f e)
 unfolding steps_from nth_step
 from_told f [] zero h = absurd (no_confusion (cc))
 from_told f [] (suc i) h = absurd (no_confusion (cc))
-from_told f (x ∷ xs) zero {e} {es} h = let q : x ≡ e = cc in ap f q
+from_told f (x ∷ xs) zero {e} {es} h = let q : x ≡ e = cc in ap (λ (s : Step). Some (f s)) q
 from_told f (x ∷ xs) (suc i) h = from_told f xs i h
 
 pub from_at : (l : List Step) (i : ℕ) {e : Step} {es : List Step} → steps_from l i ≡ e ∷ es → step_at l i ≡ some e

@@ -1,5 +1,6 @@
 -- The chip of N blocks with a region of a size, and a page's bytes in a lent image.
 -- Assumes nothing.
+use Rattle.std.specs.Prelude.{Ok, Err}
 use mathlib.Core.Bool.{Bool, true, false, ◌&&◌}
 use mathlib.Core.List.{List}
 use mathlib.Core.Path.{◌≡◌, refl, sym, ap, ◌∙◌}
@@ -11,7 +12,6 @@ use lib.Seq.{get_or-take, get_or-drop}
 use Rattle.bits.proofs.Both.{both_left, both_right}
 use Rattle.chip.proofs.Numbers.{Blocks, Sized, blocks_told, region_told}
 use Rattle.chip.specs.Large.{is_blocks, is_region, chip_of, pages_of, region_pages, region_bytes}
-use Rattle.chip.specs.declared.ChipAnswer.TheVariants.{Chip, Refused}
 use Rattle.chip.specs.declared.LargeChip.{LargeChip}
 use Rattle.chip.specs.declared.Refusal.TheVariants.{Range}
 use Rattle.bbt.specs.Pages.{page_bytes}
@@ -25,14 +25,14 @@ pub record Valid (n size : ℕ) (chip : LargeChip) : Type 0 where
   pub some_page : 0 < pages_of chip
   pub few_pages : pages_of chip ≤ 4
 
-pub chip_valid : (n size : ℕ) (chip : LargeChip) → chip_of n size ≡ Chip chip → Valid n size chip
+pub chip_valid : (n size : ℕ) (chip : LargeChip) → chip_of n size ≡ Ok chip → Valid n size chip
 unfolding chip_of
 chip_valid n size chip e = go (is_blocks n && is_region n size) refl
   where
     go : (t : Bool) → (is_blocks n && is_region n size) ≡ t → Valid n size chip
-    go false a = absurd (let x : Refused Range ≡ Chip chip = sym (rw a) ∙ e in let z : ◌≡◌ {A = ℕ} 0 1 = cc in omega arith)
+    go false a = absurd (let x : Err Range ≡ Ok chip = sym (rw a) ∙ e in let z : ◌≡◌ {A = ℕ} 0 1 = cc in omega arith)
     go true a =
-        let x : Chip (record { blocks = n; region = size }) ≡ Chip chip = sym (rw a) ∙ e in
+        let x : Ok (record { blocks = n; region = size }) ≡ Ok chip = sym (rw a) ∙ e in
         let c : record { blocks = n; region = size } ≡ chip = cc in
         let right : Blocks n = blocks_told n (both_left (is_blocks n) (is_region n size) a) in
         let blocks : chip.blocks ≡ n = sym (ap (λ (r : LargeChip). r.blocks) c) in
@@ -45,7 +45,7 @@ chip_valid n size chip e = go (is_blocks n && is_region n size) refl
           few_pages = omega arith;
         }
 
-pub pages_pos : (n size : ℕ) (chip : LargeChip) → chip_of n size ≡ Chip chip → 0 < pages_of chip
+pub pages_pos : (n size : ℕ) (chip : LargeChip) → chip_of n size ≡ Ok chip → 0 < pages_of chip
 pages_pos n size chip e = (chip_valid n size chip e).some_page
 
 -- ---- a page's bytes in the image

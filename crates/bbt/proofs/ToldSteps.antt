@@ -1,5 +1,6 @@
 -- Laws of a told plan's steps: that they are the plan's, which is the one of a number, and how many there are.
 -- Assumes nothing.
+use Rattle.std.specs.Prelude.{Option, Some, None}
 use mathlib.Core.Bool.{Bool, true, false, cond}
 use mathlib.Core.List.{List, [], ◌∷◌, map}
 use mathlib.Core.Path.{◌≡◌, refl, ◌∙◌, ap}
@@ -15,29 +16,27 @@ use Rattle.chip.specs.declared.RegionBlock.{RegionBlock}
 use Rattle.chip.specs.declared.LargeChip.{LargeChip}
 use Rattle.bbt.specs.declared.Kind.{Kind}
 use Rattle.bbt.specs.declared.Kind.TheVariants.{Primary, Mirror}
-use Rattle.bbt.specs.declared.Retired.{Retired}
-use Rattle.bbt.specs.declared.Retired.TheVariants.{Nothing, Block}
 use Rattle.bbt.specs.declared.Shape.{Shape}
 use Rattle.bbt.specs.declared.Shape.TheVariants.{Empty, One, Both}
 use Rattle.bbt.specs.declared.Step.{Step}
-use Rattle.bbt.specs.declared.Step.TheVariants.{Erase, Write, Past}
+use Rattle.bbt.specs.declared.Step.TheVariants.{Erase, Write}
 use Rattle.bbt.specs.Copies.{Table}
 use Rattle.bbt.specs.Plans.{Step as RuleStep, Job, idle, single, double, writes, copy_steps, job_steps, zero_first}
 use Rattle.bbt.specs.Told.{chip_block, told_shape, told_retired, told_step, told_writes, told_copy, steps_by, retired_first, TellsSteps, copy_step, nth_step}
 
 -- past a list's end there is no step
-pub nth_past : (es : List Step) (i : ℕ) → length es ≤ i → nth_step es i ≡ Past
+pub nth_past : (es : List Step) (i : ℕ) → length es ≤ i → nth_step es i ≡ None
 unfolding nth_step
 nth_past [] i h = refl
 nth_past (e ∷ es) zero h = absurd (omega arith)
 nth_past (e ∷ es) (suc i) h = nth_past es i (omega arith)
 
 module _ (b : ChipBlock) (k : Kind) (rest : List Step) where
-  writes_at : (n p i : ℕ) → i < n → nth_step (told_writes n p b k rest) i ≡ Write b (p + i) k
+  writes_at : (n p i : ℕ) → i < n → nth_step (told_writes n p b k rest) i ≡ Some (Write b (p + i) k)
   unfolding nth_step told_writes
   writes_at zero p i h = absurd (omega arith)
-  writes_at (suc n) p zero h = ap (λ (q : ℕ). Write b q k) (omega arith)
-  writes_at (suc n) p (suc i) h = writes_at n (suc p) i (omega arith) ∙ ap (λ (q : ℕ). Write b q k) (omega arith)
+  writes_at (suc n) p zero h = ap (λ (q : ℕ). Some (Write b q k)) (omega arith)
+  writes_at (suc n) p (suc i) h = writes_at n (suc p) i (omega arith) ∙ ap (λ (q : ℕ). Some (Write b q k)) (omega arith)
 
   writes_after : (n p i : ℕ) → nth_step (told_writes n p b k rest) (n + i) ≡ nth_step rest i
   unfolding told_writes nth_step
@@ -50,12 +49,12 @@ module _ (b : ChipBlock) (k : Kind) (rest : List Step) where
   writes_length (suc n) p = omega (arith, writes_length n (suc p))
 
   -- the steps of a copy, and those after it
-  pub copy_at : (P i : ℕ) → i ≤ P → nth_step (told_copy P b k rest) i ≡ copy_step k b i
+  pub copy_at : (P i : ℕ) → i ≤ P → nth_step (told_copy P b k rest) i ≡ Some (copy_step k b i)
   unfolding told_copy nth_step
   copy_at P zero h = refl
   copy_at P (suc i) h =
       let e : 0 + i ≡ suc i - 1 = omega arith in
-      writes_at P 0 i (omega arith) ∙ ap (λ (q : ℕ). Write b q k) e ∙ simp (ne_eqb (suc i) 0 (λ z. omega arith))
+      writes_at P 0 i (omega arith) ∙ ap (λ (q : ℕ). Some (Write b q k)) e ∙ simp (ne_eqb (suc i) 0 (λ z. omega arith))
 
   pub copy_after : (P i : ℕ) → P < i → nth_step (told_copy P b k rest) i ≡ nth_step rest (i - P - 1)
   unfolding told_copy nth_step
@@ -75,14 +74,14 @@ module _ (P : ℕ) (b : ChipBlock) (k : Kind) (c : ChipBlock) (j : Kind) where
   two_length = omega (arith, copy_length b k (told_copy P c j []) P, copy_length c j [] P)
 
   two_at : (i : ℕ) → nth_step (told_copy P b k (told_copy P c j [])) i
-      ≡ cond (leb i P) (copy_step k b i) (cond (ltb (2 * P + 1) i) Past (copy_step j c (i - P - 1)))
+      ≡ cond (leb i P) (Some (copy_step k b i)) (cond (ltb (2 * P + 1) i) None (Some (copy_step j c (i - P - 1))))
   two_at i = go (leb i P) (ltb (2 * P + 1) i) refl refl
     where
       rest : List Step
       rest = told_copy P c j []
 
       go : (t u : Bool) → leb i P ≡ t → ltb (2 * P + 1) i ≡ u
-          → nth_step (told_copy P b k rest) i ≡ cond t (copy_step k b i) (cond u Past (copy_step j c (i - P - 1)))
+          → nth_step (told_copy P b k rest) i ≡ cond t (Some (copy_step k b i)) (cond u None (Some (copy_step j c (i - P - 1))))
       go true u e f = copy_at b k rest P i (leb-true i P e)
       go false true e f = nth_past (told_copy P b k rest) i (omega (arith, two_length, ltb-true (2 * P + 1) i f))
       go false false e f =
@@ -102,17 +101,17 @@ module _ (chip : LargeChip) where
   count_by_lem (One k b g) = copy_length _ k [] (pages_of chip) ∙ add-zero (pages_of chip + 1)
   count_by_lem (Both p m) = two_length (pages_of chip) _ _ _ _
 
-  abbrev pub step_by : Shape → ℕ → Step
-  step_by Empty i = Past
-  step_by (One k b g) i = cond (ltb (pages_of chip) i) Past (copy_step k (chip_block chip b.0) i)
+  abbrev pub step_by : Shape → ℕ → Option Step
+  step_by Empty i = None
+  step_by (One k b g) i = cond (ltb (pages_of chip) i) None (Some (copy_step k (chip_block chip b.0) i))
   step_by (Both p m) i =
-      cond (leb i (pages_of chip)) (copy_step Primary (chip_block chip p.0) i)
-      (cond (ltb (2 * pages_of chip + 1) i) Past (copy_step Mirror (chip_block chip m.0) (i - pages_of chip - 1)))
+      cond (leb i (pages_of chip)) (Some (copy_step Primary (chip_block chip p.0) i))
+      (cond (ltb (2 * pages_of chip + 1) i) None (Some (copy_step Mirror (chip_block chip m.0) (i - pages_of chip - 1))))
 
-  one_by : (k : Kind) (b : ChipBlock) (i : ℕ) → nth_step (told_copy (pages_of chip) b k []) i ≡ cond (ltb (pages_of chip) i) Past (copy_step k b i)
+  one_by : (k : Kind) (b : ChipBlock) (i : ℕ) → nth_step (told_copy (pages_of chip) b k []) i ≡ cond (ltb (pages_of chip) i) None (Some (copy_step k b i))
   one_by k b i = go (ltb (pages_of chip) i) refl
     where
-      go : (t : Bool) → ltb (pages_of chip) i ≡ t → nth_step (told_copy (pages_of chip) b k []) i ≡ cond t Past (copy_step k b i)
+      go : (t : Bool) → ltb (pages_of chip) i ≡ t → nth_step (told_copy (pages_of chip) b k []) i ≡ cond t None (Some (copy_step k b i))
       go true e = nth_past (told_copy (pages_of chip) b k []) i (omega (arith, copy_length b k [] (pages_of chip), ltb-true (pages_of chip) i e))
       go false e = copy_at b k [] (pages_of chip) i (ltb-false (pages_of chip) i e)
 
@@ -124,12 +123,12 @@ module _ (chip : LargeChip) where
 
 -- ---- zeros first, where a block is retired
 module _ (chip : LargeChip) where
-  pub zeros_count : (x : Retired) (es : List Step) → length (retired_first chip x es) ≡ length (retired_first chip x []) + length es
+  pub zeros_count : (x : Option RegionBlock) (es : List Step) → length (retired_first chip x es) ≡ length (retired_first chip x []) + length es
   unfolding retired_first
-  zeros_count Nothing es = omega arith
-  zeros_count (Block b) es = omega arith
+  zeros_count None es = omega arith
+  zeros_count (Some b) es = omega arith
 
-  pub zeros_after : (x : Retired) (b : RegionBlock) → x ≡ Block b → (es : List Step) (i : ℕ) → 0 < i
+  pub zeros_after : (x : Option RegionBlock) (b : RegionBlock) → x ≡ Some b → (es : List Step) (i : ℕ) → 0 < i
       → nth_step (retired_first chip x es) i ≡ nth_step es (i - 1)
   unfolding retired_first nth_step
   zeros_after x b is es zero h = absurd (omega arith)

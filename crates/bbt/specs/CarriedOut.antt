@@ -1,8 +1,7 @@
 -- Document 01: a planned update or recovery, carried out uncut from any region image, ends settled, also where steps fail and the plan is made
 -- anew; what is written reads back.
-use Rattle.std.specs.Prelude.{List, [], ◌∷◌, ◌≡◌, ℕ, suc, ◌+◌, ◌*◌, length}
+use Rattle.std.specs.Prelude.{List, [], ◌∷◌, ◌≡◌, ℕ, suc, ◌+◌, ◌*◌, length, Ok}
 use Rattle.chip.specs.Large.{chip_of, pages_of}
-use Rattle.chip.specs.declared.ChipAnswer.TheVariants.{Chip}
 use Rattle.chip.specs.declared.LargeChip.{LargeChip}
 use Rattle.bbt.specs.declared.Kind.TheVariants.{Primary, Mirror, Neither}
 use Rattle.bbt.specs.Copies.{Table}
@@ -51,4 +50,4 @@ pub record Ends (chip : LargeChip) : Type 0 where
       → (p' : ℕ) × (m' : ℕ) × (reading chip (view u) ≡ holds p' m' (updated o wanted)) × (z.failed ≡ [] → (p' ≡ p) × (m' ≡ m))
 
 abbrev pub EndsSettled : Type 0
-EndsSettled = (n size : ℕ) (chip : LargeChip) → chip_of n size ≡ Chip chip → Ends chip
+EndsSettled = (n size : ℕ) (chip : LargeChip) → chip_of n size ≡ Ok chip → Ends chip

@@ -1,8 +1,7 @@
 -- Document 01: answers depend on N, the region's size, the call's other arguments, the status bytes, of well-read pages only the bitmap bytes
 -- and OOB 14-18, and of a block's first page, well-read or not, its 64 OOB bytes. Any other byte may change and no answer does.
-use Rattle.std.specs.Prelude.{List, ◌≡◌, ℕ, ◌+◌, ◌*◌, ◌<◌, ◌≤◌, length, get_or}
+use Rattle.std.specs.Prelude.{List, ◌≡◌, ℕ, ◌+◌, ◌*◌, ◌<◌, ◌≤◌, length, get_or, Ok}
 use Rattle.chip.specs.Large.{chip_of, pages_of}
-use Rattle.chip.specs.declared.ChipAnswer.TheVariants.{Chip}
 use Rattle.chip.specs.declared.LargeChip.{LargeChip}
 use Rattle.bbt.specs.Lent.{table_reading, planned, imaged}
 use Rattle.bbt.specs.Pages.{page_status, page_bytes, part_length}
@@ -32,4 +31,4 @@ pub record Depends (n size : ℕ) (status x y : List ℕ) : Type 0 where
   pub images : (call : Call) (failed : List ℕ) (i : ℕ) → imaged n size call x status failed i ≡ imaged n size call y status failed i
 
 abbrev pub Dependence : Type 0
-Dependence = (n size : ℕ) (chip : LargeChip) (status x y : List ℕ) → chip_of n size ≡ Chip chip → Alike chip status x y → Depends n size status x y
+Dependence = (n size : ℕ) (chip : LargeChip) (status x y : List ℕ) → chip_of n size ≡ Ok chip → Alike chip status x y → Depends n size status x y

@@ -1,8 +1,6 @@
 -- Document 01: what is lent to reading and planning, judged in its order: N and the region's size, then lengths, then status bytes, then the rest.
-use Rattle.std.specs.Prelude.{Bool, true, cond, ◌&&◌, List, ℕ, eqb, ltb, length, get_or}
+use Rattle.std.specs.Prelude.{Bool, true, cond, ◌&&◌, List, ℕ, eqb, ltb, length, get_or, Result, Ok, Err}
 use Rattle.chip.specs.Large.{chip_of, bitmap_bytes, region_pages, region_bytes}
-use Rattle.chip.specs.declared.ChipAnswer.{ChipAnswer}
-use Rattle.chip.specs.declared.ChipAnswer.TheVariants.{Chip, Refused}
 use Rattle.chip.specs.declared.LargeChip.{LargeChip}
 use Rattle.chip.specs.declared.Refusal.{Refusal}
 use Rattle.chip.specs.declared.Refusal.TheVariants.{Length, Range}
@@ -12,9 +10,9 @@ use Rattle.bbt.specs.Pages.{all, seen}
 use Rattle.bbt.specs.Plans.{Reading, refused, reading, Answer, refuse, Call, for_update, for_recovery, plan_by_rules}
 
 -- on the chip of N blocks with a region of its size, or their refusal
-abbrev pub on_chip : {A : Type 0} → (Refusal → A) → ChipAnswer → (LargeChip → A) → A
-on_chip out (Refused r) f = out r
-on_chip out (Chip chip) f = f chip
+abbrev pub on_chip : {A : Type 0} → (Refusal → A) → Result LargeChip Refusal → (LargeChip → A) → A
+on_chip out (Err r) f = out r
+on_chip out (Ok chip) f = f chip
 
 -- the image and its status bytes have their lengths
 unfoldable pub region_lent : LargeChip → List ℕ → List ℕ → Bool

@@ -2,9 +2,8 @@
 -- 01 allows, with any bytes where it allows any; a failed step's plan is made anew or given up; every plan that the library gives can be taken in hand, and a refused one changes nothing; power
 -- can always be cut; a step or cut with no step left changes no page; the last update can always be closed; and an accepted update was planned
 -- from a settled pair.
-use Rattle.std.specs.Prelude.{List, [], ◌∷◌, ◌⊎◌, ◌≡◌, ℕ, suc, ◌<◌, length, take, drop, get_or}
+use Rattle.std.specs.Prelude.{List, [], ◌∷◌, ◌⊎◌, ◌≡◌, ℕ, suc, ◌<◌, length, take, drop, get_or, Ok}
 use Rattle.chip.specs.Large.{chip_of, pages_of}
-use Rattle.chip.specs.declared.ChipAnswer.TheVariants.{Chip}
 use Rattle.chip.specs.declared.LargeChip.{LargeChip}
 use Rattle.chip.specs.declared.Refusal.{Refusal}
 use Rattle.bbt.specs.Copies.{Table}
@@ -147,4 +146,4 @@ pub record Possible (chip : LargeChip) : Type 0 where
       → (p : ℕ) × (m : ℕ) × (o : Table) × (reading chip (view r) ≡ holds p m o)
 
 abbrev pub NothingLeftOut : Type 0
-NothingLeftOut = (n size : ℕ) (chip : LargeChip) → chip_of n size ≡ Chip chip → Possible chip
+NothingLeftOut = (n size : ℕ) (chip : LargeChip) → chip_of n size ≡ Ok chip → Possible chip

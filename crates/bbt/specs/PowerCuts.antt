@@ -1,9 +1,8 @@
 -- Demand 3, as document 01's "Histories" words it: one claim about the whole list of events, from any settled pair, for every N and every
 -- size of the region.
-use Rattle.std.specs.Prelude.{true, false, [], ◌∷◌, ◌⊎◌, ◌≢◌, ◌≡◌, ℕ, ◌-◌, ◌<◌, ◌≤◌}
+use Rattle.std.specs.Prelude.{true, false, [], ◌∷◌, ◌⊎◌, ◌≢◌, ◌≡◌, ℕ, ◌-◌, ◌<◌, ◌≤◌, Ok, Some}
 use Rattle.std.proofs.Math.Option.{some}
 use Rattle.chip.specs.Large.{chip_of, pages_of}
-use Rattle.chip.specs.declared.ChipAnswer.TheVariants.{Chip}
 use Rattle.chip.specs.declared.ChipBlock.{ChipBlock}
 use Rattle.chip.specs.declared.LargeChip.{LargeChip}
 use Rattle.chip.specs.declared.Refusal.TheVariants.{Range, NoTarget, ZeroFailed}
@@ -77,7 +76,7 @@ module _ {chip : LargeChip} where
   pub record Numbered (call : Call) (a : Snapshot chip) (i : ℕ) (e : Step) : Type 0 where
     pub made : Plan
     pub by_plan : answer call a ≡ plan made
-    pub by_number : nth_step (told_steps (told_plan chip made)) i ≡ told_step chip e
+    pub by_number : nth_step (told_steps (told_plan chip made)) i ≡ Some (told_step chip e)
     pub by_image : ImageOf e (asked call a i)
 
   abbrev pub NextStep : World chip → Type 0
@@ -105,4 +104,4 @@ pub record SafeUnderCuts (chip : LargeChip) : Type 0 where
   pub retired_for_good : (r : Region chip) (b : ℕ) → Zeroed r b 0 → reads_bad (view r) b ≡ true
 
 abbrev pub Demand3 : Type 0
-Demand3 = (n size : ℕ) (chip : LargeChip) → chip_of n size ≡ Chip chip → SafeUnderCuts chip
+Demand3 = (n size : ℕ) (chip : LargeChip) → chip_of n size ≡ Ok chip → SafeUnderCuts chip

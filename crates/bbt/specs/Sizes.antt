@@ -1,8 +1,7 @@
 -- Document 02: "a table lying below the stated region isn't found". One chip, stated with d blocks fewer of its region: what is lent are then
 -- its last blocks, and of a settled pair there are found the copies that lie in them.
-use Rattle.std.specs.Prelude.{cond, List, ◌≡◌, ℕ, ◌+◌, ◌*◌, ◌-◌, ◌≤◌, leb, drop}
+use Rattle.std.specs.Prelude.{cond, List, ◌≡◌, ℕ, ◌+◌, ◌*◌, ◌-◌, ◌≤◌, leb, drop, Ok}
 use Rattle.chip.specs.Large.{chip_of, pages_of}
-use Rattle.chip.specs.declared.ChipAnswer.TheVariants.{Chip}
 use Rattle.chip.specs.declared.LargeChip.{LargeChip}
 use Rattle.chip.specs.declared.Refusal.TheVariants.{NoCopy, NotSettled}
 use Rattle.bbt.specs.Copies.{Table}
@@ -40,4 +39,4 @@ module _ {chip : LargeChip} (d : ℕ) (r : Region chip) where
     pub pairs : (p m : ℕ) (t : Table) → reading chip (view r) ≡ holds p m t → reading (narrowed chip d) last_view ≡ found_above d p m t
 
 abbrev pub BelowNotFound : Type 0
-BelowNotFound = (n size : ℕ) (chip : LargeChip) → chip_of n size ≡ Chip chip → (d : ℕ) → d ≤ size → (r : Region chip) → Narrows d r
+BelowNotFound = (n size : ℕ) (chip : LargeChip) → chip_of n size ≡ Ok chip → (d : ℕ) → d ≤ size → (r : Region chip) → Narrows d r

@@ -1,8 +1,7 @@
 -- Demand 3 is about every N, every size of the region and every table: for each of them there is a settled pair, in any two of the region's
 -- blocks, and every settled pair is a start.
-use Rattle.std.specs.Prelude.{◌≢◌, ◌≡◌, ℕ, ◌<◌}
+use Rattle.std.specs.Prelude.{◌≢◌, ◌≡◌, ℕ, ◌<◌, Ok}
 use Rattle.chip.specs.Large.{chip_of, bitmap_bytes}
-use Rattle.chip.specs.declared.ChipAnswer.TheVariants.{Chip}
 use Rattle.chip.specs.declared.LargeChip.{LargeChip}
 use Rattle.bbt.specs.Copies.{Table}
 use Rattle.bbt.specs.Histories.{one_table, empty, world}
@@ -23,4 +22,4 @@ pub record EverySettled (chip : LargeChip) : Type 0 where
   pub starts : (r : Region chip) (t : Table) → Settled r t → Start (world r empty (one_table t))
 
 abbrev pub StartsAnywhere : Type 0
-StartsAnywhere = (n size : ℕ) (chip : LargeChip) → chip_of n size ≡ Chip chip → EverySettled chip
+StartsAnywhere = (n size : ℕ) (chip : LargeChip) → chip_of n size ≡ Ok chip → EverySettled chip

@@ -9,7 +9,7 @@ ghost use Rattle.bbt.specs.Told.{chip_block, copy_step, steps_by, retired_first,
 use chip::{ChipBlock, LargeChip, Refusal, RegionBlock};
 
 // What a page's signature says: a page of a primary, of a mirror, or neither.
-#[derive(Clone, Copy)]
+#[derive(Clone, Copy, PartialEq, Eq)]
 pub enum Kind {
     Primary,
     Mirror,
@@ -18,16 +18,15 @@ pub enum Kind {
 
 impl Kind {
     // The kind of a signature, four bytes as one number.
+    #[tactic(auto, unfolding(crate::specs::Pages::kind_of_word))]
     pub fn of_signature(word: u32) -> Kind
         ensures { result ≡ kind_of_word word }
     {
-        if word == 0x42627430 {
-            return Kind::Primary;
+        match word {
+            0x42627430 => Kind::Primary,
+            0x31746242 => Kind::Mirror,
+            _ => Kind::Neither,
         }
-        if word == 0x31746242 {
-            return Kind::Mirror;
-        }
-        Kind::Neither
     }
 
     // The signature of a kind; of neither, an erased page's.
@@ -65,11 +64,9 @@ pub fn chip_block(chip: LargeChip, b: RegionBlock) -> ChipBlock
     ChipBlock(blocks - region + (b.0 as u32))
 }
 
-// The pair's case.
+// The case of a pair of tables.
 #[derive(Clone, Copy)]
 pub enum PairCase {
-    // no pair to speak of, and why: refusal 8, 7 or 9
-    Refused(Refusal),
     // only this kind is good, in this block
     Alone(Kind, RegionBlock),
     // both good, one version, equal bitmaps: primary's block and mirror's
@@ -88,36 +85,22 @@ pub enum Shape {
     Both(RegionBlock, RegionBlock),
 }
 
-// The block that has failed last under a plan, which gets zeros first, if one has.
-#[derive(Clone, Copy)]
-pub enum Retired {
-    Nothing,
-    Block(RegionBlock),
-}
-
-// A plan: the version that it tells and writes, its chip, the block that it retires, and what it writes.
+// A plan: the version that it tells and writes, its chip, the block that has failed last under it, if one has, which gets zeros first, and what
+// it writes.
 #[derive(Clone, Copy)]
 pub struct Plan {
     pub version: u8,
     pub chip: LargeChip,
-    pub retired: Retired,
+    pub retired: Option<RegionBlock>,
     pub shape: Shape,
 }
 
-// What planning answers.
-#[derive(Clone, Copy)]
-pub enum PlanAnswer {
-    Planned(Plan),
-    Refused(Refusal),
-}
-
-// A step of a plan, or none of that number: a block erased, a page of a copy written, or zeros to the OOB bytes of a block's first page.
+// A step of a plan: a block erased, a page of a copy written, or zeros to the OOB bytes of a block's first page.
 #[derive(Clone, Copy)]
 pub enum Step {
     Erase(ChipBlock),
     Write(ChipBlock, u8, Kind),
     Zero(ChipBlock),
-    Past,
 }
 
 // Step k of a copy: its block erased, then its pages in rising order.
@@ -144,67 +127,65 @@ pub fn shape_count(chip: LargeChip, shape: Shape) -> u32
 }
 
 // Step k of these, counted from 0.
-pub fn shape_step(chip: LargeChip, shape: Shape, k: u64) -> Step
+#[tactic(auto, using(crate::proofs::ToldSteps::step_by_lem))]
+pub fn shape_step(chip: LargeChip, shape: Shape, k: u64) -> Option<Step>
     ensures { result ≡ nth_step (steps_by chip shape) k }
 {
     let p = chip.pages() as u64;
     match shape {
-        Shape::Empty => Step::Past,
+        Shape::Empty => None,
         Shape::One(kind, block, _) => {
             if p < k {
-                return Step::Past;
+                return None;
             }
-            copy_step(kind, chip_block(chip, block), k)
+            Some(copy_step(kind, chip_block(chip, block), k))
         }
         Shape::Both(primary, mirror) => {
             if k <= p {
-                return copy_step(Kind::Primary, chip_block(chip, primary), k);
+                return Some(copy_step(Kind::Primary, chip_block(chip, primary), k));
             }
             if 2 * p + 1 < k {
-                return Step::Past;
+                return None;
             }
-            copy_step(Kind::Mirror, chip_block(chip, mirror), k - p - 1)
+            Some(copy_step(Kind::Mirror, chip_block(chip, mirror), k - p - 1))
         }
     }
 }
 
 // How many zero steps come first: one where a block is retired.
-fn zero_count(chip: LargeChip, retired: Retired) -> u32
+#[tactic(auto, unfolding(crate::specs::Told::retired_first))]
+fn zero_count(chip: LargeChip, retired: Option<RegionBlock>) -> u32
     ensures { (result ≡ length (retired_first chip retired [])) × (result ≤ 1) }
 {
     match retired {
-        Retired::Nothing => 0,
-        Retired::Block(_) => 1,
+        None => 0,
+        Some(_) => 1,
     }
 }
 
 impl Plan {
     // How many steps there are, with the zero step where a block is retired.
+    #[tactic(auto, using(crate::proofs::ToldSteps::zeros_count))]
     pub fn step_count(self) -> u32
         ensures { result ≡ length (told_steps self) }
     {
-        let chip = self.chip;
-        let shape = self.shape;
-        let retired = self.retired;
-        zero_count(chip, retired) + shape_count(chip, shape)
+        zero_count(self.chip, self.retired) + shape_count(self.chip, self.shape)
     }
 
     // Step k, counted from 0.
-    pub fn step(self, k: u64) -> Step
+    #[tactic(auto, using(crate::proofs::ToldSteps::zeros_after), unfolding(crate::specs::Told::retired_first, crate::specs::Told::nth_step))]
+    pub fn step(self, k: u64) -> Option<Step>
         ensures { result ≡ nth_step (told_steps self) k }
     {
-        let chip = self.chip;
-        let shape = self.shape;
-        let retired = self.retired;
-        let after = match retired {
-            Retired::Nothing => k,
-            Retired::Block(b) => {
+        let after = match self.retired {
+            None => k,
+            Some(b) => {
                 if k == 0 {
-                    return Step::Zero(chip_block(chip, b));
+                    return Some(Step::Zero(chip_block(self.chip, b)));
                 }
                 k - 1
             }
         };
-        shape_step(chip, shape, after)
+        shape_step(self.chip, self.shape, after)
     }
 }

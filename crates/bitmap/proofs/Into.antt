@@ -1,30 +1,37 @@
--- Laws of a loop that stores f of two bitmaps' bytes at each place: what it leaves is the update rule, or the AND, into a third.
+-- What is put into a third bitmap is the update rule, or the AND, of the two.
 -- Assumes nothing.
+use mathlib.Core.Bool.{Bool, true, false, cond, ◌&&◌}
 use mathlib.Core.List.{List}
-use mathlib.Core.Path.{◌≡◌, sym, ◌∙◌, ap}
+use mathlib.Core.Logic.{inl, inr}
+use mathlib.Core.Path.{◌≡◌, refl, sym, ◌∙◌}
 use Prim.Native.Nat.{ℕ}
-use borrow.Author.Tests.{eq-eqb}
+use native.Mathlib.Omega.{arith}
+use borrow.Author.Tests.{eqb-true, eqb-false}
 use lib.Bits.{bit_and}
-use lib.ListN.{length, get_or}
-use Rattle.bits.specs.Bytes.{build}
-use Rattle.bits.proofs.Filling.{filled, fill_end}
-use Rattle.bits.proofs.Zipped.{zipped, build_zipped}
+use lib.Dec.{eqb}
+use lib.ListN.{length}
+use Rattle.std.proofs.lemmas.Grind.{same_number_lists}
+use Rattle.bits.proofs.Zipped.{zipped, length_zipped, get_d_zipped}
 use Rattle.bbt.specs.Entries.{updated_byte}
 use Rattle.bbt.proofs.Bitmaps.{updated_zipped, and_zipped}
-use Rattle.bitmap.specs.Made.{updated_into, anded_into}
+use Rattle.bitmap.specs.Made.{PutInto, one_length, updated_into, anded_into}
 
--- f of the bytes at a place
-abbrev pub place : (ℕ → ℕ → ℕ) → List ℕ → List ℕ → ℕ → ℕ
-place f a b i = f (get_or a i 0) (get_or b i 0)
+module _ (a b out after : List ℕ) where
+  put : (f : ℕ → ℕ → ℕ) → PutInto f a b out after → after ≡ cond (one_length a b out) (zipped f a b) out
+  put f p = go (eqb (length a) (length out)) refl (eqb (length b) (length out)) refl
+    where
+      go : (s : Bool) → eqb (length a) (length out) ≡ s → (t : Bool) → eqb (length b) (length out) ≡ t → after ≡ cond (s && t) (zipped f a b) out
+      go true ea true eb =
+          let la = eqb-true _ _ ea in
+          let lb = eqb-true _ _ eb in
+          same_number_lists after (zipped f a b) (p.long ∙ sym (length_zipped f a b (la ∙ sym lb) ∙ la)) (λ k h. p.each la lb k (omega (arith, p.long)) ∙ sym (get_d_zipped f a b k (la ∙ sym lb) (omega (arith, p.long))))
+      go true ea false eb = p.nothing (inr (eqb-false _ _ eb))
+      go false ea t eb = p.nothing (inl (eqb-false _ _ ea))
 
-module _ (a b out : List ℕ) (ea : length a ≡ length out) (eb : length b ≡ length out) where
-  all_stored : (f : ℕ → ℕ → ℕ) → filled (place f a b) (length out) out ≡ zipped f a b
-  all_stored f = fill_end (place f a b) out ∙ ap (build (place f a b)) (sym ea) ∙ build_zipped f a b (ea ∙ sym eb)
-
-  pub updated-into : filled (place updated_byte a b) (length out) out ≡ updated_into a b out
+  pub updated_put : PutInto updated_byte a b out after → after ≡ updated_into a b out
   unfolding updated_into
-  updated-into = simp (eq-eqb (length a) (length out) ea, eq-eqb (length b) (length out) eb) (all_stored updated_byte ∙ sym (updated_zipped a b))
+  updated_put p = rw updated_zipped (put updated_byte p)
 
-  pub and_into : filled (place bit_and a b) (length out) out ≡ anded_into a b out
+  pub anded_put : PutInto bit_and a b out after → after ≡ anded_into a b out
   unfolding anded_into
-  and_into = simp (eq-eqb (length a) (length out) ea, eq-eqb (length b) (length out) eb) (all_stored bit_and ∙ sym (and_zipped a b))
+  anded_put p = rw and_zipped (put bit_and p)

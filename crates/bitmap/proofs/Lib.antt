@@ -1,2 +1,3 @@
 pub mod Rule
+pub mod Parts
 pub mod Into

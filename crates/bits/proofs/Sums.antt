@@ -1,7 +1,7 @@
 -- Laws of `⊕`, the odd-or-even sum of two bits.
 -- Assumes nothing.
 use mathlib.Core.Path.{◌≡◌, refl, ◌∙◌, ap, sym}
-use mathlib.Core.Bool.{Bool, true, false, not, ◌&&◌, beq}
+use mathlib.Core.Bool.{Bool, true, false, not, ◌&&◌}
 use Rattle.bits.specs.Bits.{◌⊕◌}
 
 pub ⊕_false : (a : Bool) → (a ⊕ false) ≡ a
@@ -17,13 +17,6 @@ not_⊕ true true = refl
 not_⊕ true false = refl
 not_⊕ false true = refl
 not_⊕ false false = refl
-
--- the code's `==` on two bools
-pub beq_⊕ : (a b t : Bool) → beq a b ≡ t → (a ⊕ b) ≡ not t
-beq_⊕ true true t e = ap not e
-beq_⊕ true false t e = ap not e
-beq_⊕ false true t e = ap not e
-beq_⊕ false false t e = ap not e
 
 pub ⊕_comm : (a b : Bool) → (a ⊕ b) ≡ (b ⊕ a)
 ⊕_comm true true = refl

@@ -1,52 +1,35 @@
 -- What `copies` holds: the blocks that carry a boot number, all of them, each once, in the order of the blocks.
 -- Assumes nothing.
-use mathlib.Core.Bool.{Bool, true, false, cond}
 use mathlib.Core.List.{List, [], ◌∷◌}
 use mathlib.Core.Path.{◌≡◌, refl, ap, ◌∙◌}
 use Prim.Native.Nat.{ℕ, ◌<◌, ◌≤◌}
 use native.Mathlib.Omega.{arith}
-use borrow.Author.Tests.{eqb-true, eq-eqb}
-use lib.Dec.{eqb}
 use lib.ListN.{length, get_or}
-use Rattle.boot.specs.declared.Counted.{Counted}
-use Rattle.boot.specs.declared.Counted.TheVariants.{Counts, PassedOver}
+use Rattle.std.proofs.lemmas.Bool.Decides.{nat_tests}
+use Rattle.std.specs.Prelude.{Some, None}
+use Rattle.boot.specs.Counting.{Counted}
 use Rattle.boot.specs.Loader.{Carries}
 use Rattle.boot.specs.Mapping.{Blocks, Copy, copy_of, copies}
 use Rattle.boot.proofs.Gathered.{Gathers, Brought, Source, gathers_order, gathers_brought, gathers_source}
 
 -- ---- what one block brings
 copy_of_one : (k b : ℕ) (c : Counted) → length (copy_of k b c) ≤ 1
-copy_of_one k b PassedOver = omega arith
-copy_of_one k b (Counts m g) = go (eqb m.0 k)
-  where
-    go : (t : Bool) → length {A = Copy} (cond t (record { block = record { 0 = b }; generation = g } ∷ []) []) ≤ 1
-    go true = omega arith
-    go false = omega arith
+copy_of_one k b None = omega arith
+copy_of_one k b (Some (m, g)) = grind (arith, nat_tests)
 
 -- it is the block itself, and carries the number
 record Told (k b : ℕ) (c : Counted) (a : Copy) : Type 0 where
   itself : a.block.0 ≡ b
-  told : c ≡ Counts (record { 0 = k }) a.generation
+  told : c ≡ Some (record { 0 = k }, a.generation)
 
 copy_of_told : (k b : ℕ) (c : Counted) (a : Copy) → copy_of k b c ≡ a ∷ [] → Told k b c a
-copy_of_told k b PassedOver a e = absurd (omega (arith, ap length e))
-copy_of_told k b (Counts m g) a e = go (eqb m.0 k) refl
-  where
-    it : Copy
-    it = record { block = record { 0 = b }; generation = g }
-
-    go : (t : Bool) → eqb m.0 k ≡ t → Told k b (Counts m g) a
-    go true t =
-        let x : it ∷ [] ≡ a ∷ [] = rw t at e in
-        let q : it ≡ a = cc in
-        let r : m.0 ≡ k = eqb-true m.0 k t in
-        record { itself = rw (← q) refl; told = rw (← q, ← r) refl }
-    go false t = let x : [] ≡ a ∷ [] = rw t at e in absurd (omega (arith, ap length x))
+copy_of_told k b None a e = absurd (omega (arith, ap length e))
+copy_of_told k b (Some (m, g)) a e = grind (arith, nat_tests)
 
 -- and a block that carries the number brings itself
 copy_of_carried : (k b g : ℕ)
-    → copy_of k b (Counts (record { 0 = k }) (record { 0 = g })) ≡ record { block = record { 0 = b }; generation = record { 0 = g } } ∷ []
-copy_of_carried k b g = rw (eq-eqb k k refl) refl
+    → copy_of k b (Some (record { 0 = k }, record { 0 = g })) ≡ record { block = record { 0 = b }; generation = record { 0 = g } } ∷ []
+copy_of_carried k b g = grind (arith, nat_tests)
 
 -- ---- what all blocks bring, by places
 -- past the end stands none

@@ -1,25 +1,23 @@
 -- Every boot number has its own blocks, so the numbers that are in order are no more than the blocks, and neither are the blocks that are listed.
 -- Assumes nothing.
-use mathlib.Core.Bool.{Bool, true, false, cond, false≢true}
+use mathlib.Core.Bool.{true, cond, false≢true}
 use mathlib.Core.List.{List, [], ◌∷◌}
-use mathlib.Core.Logic.{◌⊎◌, inl, inr}
+use mathlib.Core.Logic.{◌⊎◌, inr}
 use mathlib.Core.Path.{◌≡◌, refl}
 use Prim.Native.Nat.{ℕ, zero, suc, ◌+◌, ◌<◌, ◌≤◌}
 use native.Mathlib.Omega.{arith}
-use borrow.Author.Tests.{eqb-true, eqb-false, ltb-true, ltb-false, lt-ltb, le-ltb}
-use lib.Dec.{eqb, leb, ltb}
+use lib.Dec.{ltb}
 use lib.ListN.{length, length-append}
-use Rattle.boot.specs.declared.Counted.{Counted}
-use Rattle.boot.specs.declared.Counted.TheVariants.{Counts, PassedOver}
+use Rattle.std.proofs.lemmas.Bool.Decides.{nat_tests}
+use Rattle.std.specs.Prelude.{Some, None}
 use Rattle.boot.specs.declared.Listing.TheVariants.{ToMap, ToErase}
-use Rattle.boot.specs.declared.Standing.{Standing}
+use Rattle.boot.specs.Counting.{Counted}
 use Rattle.boot.specs.Mapping.{Blocks, Copy, copy_of, copies, of_copies, standing, in_order, above_with, above, entry_of, listed, list_of}
-use Rattle.boot.proofs.TwoCopies.{of_two_any}
 
 -- how many of the first n blocks count with a number below m
 abbrev lesser : ℕ → Counted → ℕ
-lesser m PassedOver = 0
-lesser m (Counts k g) = cond (ltb k.0 m) 1 0
+lesser m None = 0
+lesser m (Some (k, g)) = cond (ltb k.0 m) 1 0
 
 unfoldable below : Blocks → ℕ → ℕ → ℕ
 below blocks m zero = 0
@@ -27,12 +25,8 @@ below blocks m (suc n) = below blocks m n + lesser m (blocks n)
 
 -- a block adds one at most
 lesser_one : (m : ℕ) (c : Counted) → lesser m c ≤ 1
-lesser_one m PassedOver = omega arith
-lesser_one m (Counts k g) = go (ltb k.0 m)
-  where
-    go : (t : Bool) → cond t 1 0 ≤ 1
-    go true = omega arith
-    go false = omega arith
+lesser_one m None = omega arith
+lesser_one m (Some (k, g)) = grind (arith, nat_tests)
 
 below_all : (blocks : Blocks) (m n : ℕ) → below blocks m n ≤ n
 unfolding below
@@ -41,15 +35,8 @@ below_all blocks m (suc n) = omega (arith, below_all blocks m n, lesser_one m (b
 
 -- up to number m itself, its copies are added
 lesser_next : (m b : ℕ) (c : Counted) → lesser (suc m) c ≡ lesser m c + length (copy_of m b c)
-lesser_next m b PassedOver = refl
-lesser_next m b (Counts k g) = go (eqb k.0 m) (ltb k.0 m) refl refl
-  where
-    go : (t u : Bool) → eqb k.0 m ≡ t → ltb k.0 m ≡ u → lesser (suc m) (Counts k g) ≡ lesser m (Counts k g) + length (copy_of m b (Counts k g))
-    go true u e l =
-        let q : k.0 ≡ m = eqb-true k.0 m e in
-        rw (e, lt-ltb k.0 (suc m) (omega arith), le-ltb k.0 m (omega arith)) refl
-    go false true e l = rw (e, l, lt-ltb k.0 (suc m) (omega (arith, ltb-true k.0 m l))) refl
-    go false false e l = rw (e, l, le-ltb k.0 (suc m) (omega (arith, ltb-false k.0 m l, eqb-false k.0 m e))) refl
+lesser_next m b None = refl
+lesser_next m b (Some (k, g)) = grind (arith, nat_tests)
 
 below_next : (blocks : Blocks) (m n : ℕ) → below blocks (suc m) n ≡ below blocks m n + length (copies blocks n m)
 unfolding below copies
@@ -71,25 +58,14 @@ below_enough blocks n (suc m) all =
 
 -- and where a higher number is found, a block with it is not among them
 lesser_high : (m a : ℕ) (c : Counted) → m < above_with a c → (m < a) ⊎ (lesser m c ≡ 0)
-lesser_high m a PassedOver h = inr refl
-lesser_high m a (Counts k g) h = go (ltb k.0 m) refl
-  where
-    high : (t : Bool) → ltb k.0 m ≡ true → m < cond t (suc k.0) a → m < a
-    high true l i = absurd (omega (arith, ltb-true k.0 m l))
-    high false l i = i
-
-    go : (t : Bool) → ltb k.0 m ≡ t → (m < a) ⊎ (lesser m (Counts k g) ≡ 0)
-    go true l = inl (high (leb a k.0) l h)
-    go false l = inr (rw l refl)
+lesser_high m a None h = inr refl
+lesser_high m a (Some (k, g)) h = grind (arith, nat_tests)
 
 below_some : (blocks : Blocks) (m n : ℕ) → m < above blocks n → below blocks m n < n
 unfolding below above
 below_some blocks m zero h = absurd (omega arith)
-below_some blocks m (suc n) h = go (below_some blocks m n) (lesser_high m (above blocks n) (blocks n) h)
-  where
-    go : (m < above blocks n → below blocks m n < n) → (m < above blocks n) ⊎ (lesser m (blocks n) ≡ 0) → below blocks m (suc n) < suc n
-    go rec (inl l) = omega (arith, rec l, lesser_one m (blocks n))
-    go rec (inr e) = omega (arith, below_all blocks m n)
+below_some blocks m (suc n) h =
+    grind (arith, below_some blocks m n, below_all blocks m n, lesser_one m (blocks n), lesser_high m (above blocks n) (blocks n) h)
 
 -- where the numbers below m are in order, and a higher one is found, there are more than m blocks
 pub fits : (blocks : Blocks) (n m : ℕ) → ((k : ℕ) → k < m → in_order (standing blocks n k) ≡ true) → m < above blocks n → m < n
@@ -100,8 +76,7 @@ fits blocks n m all h = omega (arith, below_enough blocks n m all, below_some bl
 entries_few : (c : List Copy) → length (entry_of ToMap (of_copies c)) + length (entry_of ToErase (of_copies c)) ≤ length c
 entries_few [] = omega arith
 entries_few (a ∷ []) = omega arith
-entries_few (a ∷ b ∷ []) =
-    of_two_any (λ (s : Standing). length (entry_of ToMap s) + length (entry_of ToErase s) ≤ 2) a b (omega arith) (omega arith) (omega arith)
+entries_few (a ∷ b ∷ []) = grind arith
 entries_few (a ∷ b ∷ c ∷ more) = omega arith
 
 listed_below : (blocks : Blocks) (n m : ℕ) → length (listed ToMap (standing blocks n) m) + length (listed ToErase (standing blocks n) m) ≤ below blocks m n

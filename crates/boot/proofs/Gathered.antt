@@ -1,17 +1,15 @@
 -- A list to which the numbers from 0 on bring one entry each or none, in their order: what number k brings stands behind all that was
 -- brought before, and every entry was brought by one number.
 -- Assumes nothing.
-use mathlib.Core.Bool.{Bool, true, false}
 use mathlib.Core.List.{List, [], ◌∷◌, ◌++◌}
 use mathlib.Core.Logic.{◌⊎◌, inl, inr}
 use mathlib.Core.Path.{◌≡◌, refl, ap, ◌∙◌}
 use Prim.Native.Nat.{ℕ, zero, suc, ◌+◌, ◌<◌, ◌≤◌}
 use native.Mathlib.Nat.{eq-or-lt_of_le}
 use native.Mathlib.Omega.{arith}
-use borrow.Author.Tests.{ltb-true, ltb-false}
-use lib.Dec.{ltb}
 use lib.ListN.{length, get_or, length-append, get_or-append}
-use lib.Seq.{get_or-append_seam}
+use Rattle.std.proofs.lemmas.Bool.{cases_lt}
+use Rattle.std.proofs.lemmas.Grind.{common_steps}
 
 module _ {A : Type 0} (f : ℕ → List A) (L : ℕ → List A) where
   -- L n holds what the numbers below n bring, by f
@@ -43,57 +41,33 @@ module _ {A : Type 0} {f : ℕ → List A} {L : ℕ → List A} (s : Gathers f L
   -- what stands further behind was brought by a higher number
   gathers_grows : (k n : ℕ) → k ≤ n → length (L k) ≤ length (L n)
   gathers_grows k zero h = let e : k ≡ 0 = omega arith in rw e (omega arith)
-  gathers_grows k (suc n) h = go (gathers_grows k n) (eq-or-lt_of_le h)
-    where
-      go : (k ≤ n → length (L k) ≤ length (L n)) → (k ≡ suc n) ⊎ (k < suc n) → length (L k) ≤ length (L (suc n))
-      go rec (inl e) = rw e (omega arith)
-      go rec (inr l) = omega (arith, rec (omega arith), gathers_length n)
+  gathers_grows k (suc n) h = grind (arith, eq-or-lt_of_le h, gathers_grows k n, gathers_length n)
 
   pub gathers_order : (k n : ℕ) → length (L k) < length (L n) → k < n
-  gathers_order k n h = go (ltb k n) refl
-    where
-      go : (t : Bool) → ltb k n ≡ t → k < n
-      go true e = ltb-true k n e
-      go false e = absurd (omega (arith, gathers_grows n k (ltb-false k n e)))
+  gathers_order k n h = grind (arith, gathers_grows n k)
 
   -- what number k brings stands at the place that the numbers below it fill
   pub gathers_brought : (d a : A) (k n : ℕ) → k < n → f k ≡ a ∷ [] → Brought f L d a k n
   gathers_brought d a k zero h e = absurd (omega arith)
-  gathers_brought d a k (suc n) h e = go (λ l. gathers_brought d a k n l e) (eq-or-lt_of_le h)
-    where
-      go : (k < n → Brought f L d a k n) → (suc k ≡ suc n) ⊎ (suc k < suc n) → Brought f L d a k (suc n)
-      go rec (inl q) =
-          let r : k ≡ n = omega arith in
-          let g : f n ≡ a ∷ [] = rw r at e in
-          rw r (record { inside = omega (arith, gathers_length n, ap length g); there = rw (s.next n, g) (get_or-append_seam (L n) a [] d) })
-      go rec (inr l) =
-          let b : Brought f L d a k n = rec (omega arith) in
-          record {
-            inside = omega (arith, b.inside, gathers_length n);
-            there = rw (s.next n, get_or-append (L n) (f n) d (length (L k)) b.inside) b.there;
-          }
+  gathers_brought d a k (suc n) h e =
+      let rec : k < n → Brought f L d a k n = λ l. gathers_brought d a k n l e in
+      record {
+        inside = grind (arith, eq-or-lt_of_le h, gathers_grows k n, gathers_length n, ap length e);
+        there = grind (arith, common_steps, eq-or-lt_of_le h, s.next n, e, λ (l : k < n). (rec l).inside, λ (l : k < n). (rec l).there);
+      }
 
   -- and nothing else stands there: each place has its number
   pub gathers_source : (d : A) → ((k : ℕ) → length (f k) ≤ 1) → (i n : ℕ) → i < length (L n) → Source f L d i n
   gathers_source d most i zero h = absurd (omega (arith, ap length s.start))
-  gathers_source d most i (suc n) h = go (gathers_source d most i n) (ltb i (length (L n))) refl
+  gathers_source d most i (suc n) h = go (gathers_source d most i n) (cases_lt i (length (L n))) (f n) refl
     where
-      last : length (L n) ≤ i → (l : List A) → f n ≡ l → Source f L d i (suc n)
-      last m [] e = absurd (omega (arith, gathers_length n, ap length e))
-      last m (a ∷ []) e =
+      go : (i < length (L n) → Source f L d i n) → (i < length (L n)) ⊎ (length (L n) ≤ i) → (l : List A) → f n ≡ l → Source f L d i (suc n)
+      go rec (inl l) m e =
+          let o : Source f L d i n = rec l in
+          record { number = o.number; below = omega (arith, o.below); brings = rw (s.next n, get_or-append (L n) (f n) d i l) o.brings; place = o.place }
+      go rec (inr l) [] e = absurd (omega (arith, gathers_length n, ap length e))
+      go rec (inr l) (a ∷ []) e =
           let p : length (L n) ≡ i = omega (arith, gathers_length n, ap length e) in
           let b : Brought f L d a n (suc n) = gathers_brought d a n (suc n) (omega arith) e in
           record { number = n; below = omega arith; brings = rw (← p, b.there) e; place = p }
-      last m (a ∷ b ∷ l) e = absurd (omega (arith, most n, ap length e))
-
-      go : (i < length (L n) → Source f L d i n) → (t : Bool) → ltb i (length (L n)) ≡ t → Source f L d i (suc n)
-      go rec true t =
-          let l : i < length (L n) = ltb-true i (length (L n)) t in
-          let o : Source f L d i n = rec l in
-          record {
-            number = o.number;
-            below = omega (arith, o.below);
-            brings = rw (s.next n, get_or-append (L n) (f n) d i l) o.brings;
-            place = o.place;
-          }
-      go rec false t = last (ltb-false i (length (L n)) t) (f n) refl
+      go rec (inr l) (a ∷ b ∷ m) e = absurd (omega (arith, most n, ap length e))

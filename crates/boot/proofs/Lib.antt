@@ -1,5 +1,5 @@
 pub mod Searching
-pub mod TwoCopies
+pub mod Chunks
 pub mod Fitting
 pub mod Joining
 pub mod Slots

@@ -1,12 +1,9 @@
--- Laws of `first_not`, the search for the smallest number at which f does not hold: what it finds, that it goes number by number, and that it
--- asks nothing past what it finds.
+-- Laws of `first_not`, the search for the smallest number at which f does not hold: f holds before what it finds and not there, and of one
+-- number alone is that so.
 -- Assumes nothing.
-use mathlib.Core.Bool.{Bool, true, false, cond}
-use mathlib.Core.Logic.{◌⊎◌, inl, inr}
-use mathlib.Core.Path.{◌≡◌, refl}
-use Prim.Native.Nat.{ℕ, zero, suc, ◌+◌, ◌-◌, ◌<◌, ◌≤◌}
-use native.Mathlib.Nat.{eq-or-lt_of_le}
-use native.Mathlib.Numerals.{add-one}
+use mathlib.Core.Bool.{Bool, true, false}
+use mathlib.Core.Path.{◌≡◌}
+use Prim.Native.Nat.{ℕ, zero, suc, ◌+◌, ◌<◌, ◌≤◌}
 use native.Mathlib.Omega.{arith}
 use Rattle.boot.specs.Mapping.{Blocks, standing, in_order, above, first_not, smallest_out}
 
@@ -14,50 +11,18 @@ use Rattle.boot.specs.Mapping.{Blocks, standing, in_order, above, first_not, sma
 pub first_not_holds : (f : ℕ → Bool) (k n j : ℕ) → k ≤ j → j < first_not f k n → f j ≡ true
 unfolding first_not
 first_not_holds f k zero j h l = absurd (omega arith)
-first_not_holds f k (suc n) j h l = go (first_not_holds f (suc k) n j) (f k) refl (eq-or-lt_of_le h)
-  where
-    go : (k < j → j < first_not f (suc k) n → f j ≡ true) → (t : Bool) → f k ≡ t → (k ≡ j) ⊎ (k < j) → f j ≡ true
-    go rec true e (inl q) = rw (← q) e
-    go rec true e (inr q) = rec q (rw e at l)
-    go rec false e q = let m : j < k = rw e at l in absurd (omega arith)
+first_not_holds f k (suc n) j h l = grind (arith, first_not_holds f (suc k) n j)
 
 pub first_not_fails : (f : ℕ → Bool) (k n : ℕ) → first_not f k n < k + n → f (first_not f k n) ≡ false
 unfolding first_not
 first_not_fails f k zero h = absurd (omega arith)
-first_not_fails f k (suc n) h = go (first_not_fails f (suc k) n) (f k) refl
-  where
-    go : (first_not f (suc k) n < suc k + n → f (first_not f (suc k) n) ≡ false) → (t : Bool) → f k ≡ t → f (first_not f k (suc n)) ≡ false
-    go rec true e =
-        let m : first_not f (suc k) n < k + suc n = rw e at h in
-        rw e (rec (omega arith))
-    go rec false e = rw e e
+first_not_fails f k (suc n) h = grind (arith, first_not_fails f (suc k) n)
 
--- a turn of the search up to `end`, and its end
-pub first_not_turn : (f : ℕ → Bool) (k end : ℕ) → k < end → first_not f k (end - k) ≡ cond (f k) (first_not f (k + 1) (end - (k + 1))) k
+-- and only one number is so
+pub first_not_is : (f : ℕ → Bool) (k n m : ℕ) → k ≤ m → m ≤ k + n → ((j : ℕ) → j < m → f j ≡ true) → (m < k + n → f m ≡ false) → first_not f k n ≡ m
 unfolding first_not
-first_not_turn f k end h = let more : end - k ≡ suc (end - (k + 1)) = omega arith in rw (more, add-one) refl
-
-pub first_not_end : (f : ℕ → Bool) (k : ℕ) → first_not f k (k - k) ≡ k
-unfolding first_not
-first_not_end f k = let none : k - k ≡ 0 = omega arith in rw none refl
-
--- of two tests that are the same at the numbers asked
-pub first_not_same : (f g : ℕ → Bool) (k n : ℕ) → ((i : ℕ) → i < k + n → f i ≡ g i) → first_not f k n ≡ first_not g k n
-unfolding first_not
-first_not_same f g k zero h = refl
-first_not_same f g k (suc n) h = rw (h k (omega arith), first_not_same f g (suc k) n (λ i b. h i (omega arith))) refl
-
--- what is found stays found where more numbers are asked
-pub first_not_longer : (f : ℕ → Bool) (k n m : ℕ) → n ≤ m → first_not f k n < k + n → first_not f k m ≡ first_not f k n
-unfolding first_not
-first_not_longer f k zero m h l = absurd (omega arith)
-first_not_longer f k (suc n) zero h l = absurd (omega arith)
-first_not_longer f k (suc n) (suc m) h l = go (f k) refl (first_not_longer f (suc k) n m (omega arith))
-  where
-    go : (t : Bool) → f k ≡ t → (first_not f (suc k) n < suc k + n → first_not f (suc k) m ≡ first_not f (suc k) n)
-        → cond t (first_not f (suc k) m) k ≡ cond t (first_not f (suc k) n) k
-    go true e more = let found : first_not f (suc k) n < k + suc n = rw e at l in more (omega arith)
-    go false e more = refl
+first_not_is f k zero m h l before at = omega arith
+first_not_is f k (suc n) m h l before at = grind (arith, before k, at, λ (q : k < m). first_not_is f (suc k) n m q (omega arith) before (λ i. at (omega arith)))
 
 -- the smallest number out of order is out of order, and those below it are in order
 module _ (blocks : Blocks) (n : ℕ) where

@@ -2,12 +2,13 @@
 -- Assumes nothing.
 use mathlib.Core.Bool.{Bool, true, false, true≢false, false≢true}
 use mathlib.Core.List.{List, [], ◌∷◌}
-use mathlib.Core.Logic.{◌⊎◌, inl, inr, ⊎_swap}
-use mathlib.Core.Path.{◌≡◌, refl, sym}
-use Prim.Native.Nat.{ℕ, zero, suc, ◌+◌, ◌%◌, ◌<◌}
+use mathlib.Core.Logic.{◌⊎◌, ⊎_swap}
+use mathlib.Core.Path.{◌≡◌, refl}
+use Prim.Native.Nat.{ℕ, ◌+◌, ◌%◌}
 use native.Mathlib.Omega.{arith}
 use borrow.Author.Tests.{eqb-true, eqb-false}
 use lib.Dec.{eqb}
+use Rattle.std.proofs.lemmas.Grind.{common_steps}
 use Rattle.chip.specs.Boot.{follows}
 use Rattle.chip.specs.declared.ChipBlock.{ChipBlock}
 use Rattle.chip.specs.declared.Generation.{Generation}
@@ -15,7 +16,7 @@ use Rattle.boot.specs.declared.Standing.{Standing}
 use Rattle.boot.specs.declared.Standing.TheVariants.{Missing, One, Pair, Wrong}
 use Rattle.boot.specs.Loader.{Carries, Only, Ordered, Disordered, one, two, missing, doubled, tripled}
 use Rattle.boot.specs.Mapping.{Blocks, Copy, copies, of_two, of_copies, standing, in_order}
-use Rattle.boot.proofs.Copies.{block_in, Held, copies_held}
+use Rattle.boot.proofs.Copies.{Held, copies_held}
 
 module _ (blocks : Blocks) (n k : ℕ) where
   -- number k stands so: the blocks that carry it
@@ -42,13 +43,8 @@ module _ (blocks : Blocks) (n k : ℕ) where
       second : Carries blocks n k b.block.0 y
       second = h.carried 1 (omega arith)
 
-      each : (c i : ℕ) → i < 2 → block_in (a ∷ b ∷ []) i ≡ c → (c ≡ a.block.0) ⊎ (c ≡ b.block.0)
-      each c zero l e = inl (sym e)
-      each c (suc zero) l e = inr (sym e)
-      each c (suc (suc i)) l e = absurd (omega arith)
-
       only : Only blocks n k (λ c. (c ≡ a.block.0) ⊎ (c ≡ b.block.0))
-      only c g d = let s = h.all c g d in each c s.0 s.1 s.2
+      only c g d = let s = h.all c g d in grind (arith, common_steps, s.1, s.2)
 
       go : (t u : Bool) → eqb y ((x + 1) % 4) ≡ t → eqb x ((y + 1) % 4) ≡ u → Stands (of_two a b)
       go true u e f =
@@ -65,11 +61,7 @@ module _ (blocks : Blocks) (n k : ℕ) where
 
   of_copies_stands : (l : List Copy) → Held blocks n k l → Stands (of_copies l)
   of_copies_stands [] h = no_block (λ b g c. omega (arith, (h.all b g c).1))
-  of_copies_stands (a ∷ []) h = one_block (h.carried 0 (omega arith)) (λ b g c. let s = h.all b g c in only b s.0 s.1 s.2)
-    where
-      only : (b i : ℕ) → i < 1 → block_in (a ∷ []) i ≡ b → b ≡ a.block.0
-      only b zero l e = sym e
-      only b (suc i) l e = absurd (omega arith)
+  of_copies_stands (a ∷ []) h = one_block (h.carried 0 (omega arith)) (λ b g c. let s = h.all b g c in grind (arith, common_steps, s.1, s.2))
   of_copies_stands (a ∷ b ∷ []) h = of_two_stands a b h
   of_copies_stands (a ∷ b ∷ c ∷ l) h =
       wrong

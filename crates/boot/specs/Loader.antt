@@ -1,15 +1,14 @@
 -- What the loader relies on: blocks count as what was written to them. Of any blocks, an answered map names for every boot number from 0 to the highest found exactly one block; no
 -- block stands in both lists or twice in one; every block that is listed counts, and every one that counts is listed; both lists are in boot
 -- order. A refused call names a number that is really missing, doubled wrongly or tripled, and every smaller number is in order.
-use Rattle.std.specs.Prelude.{List, ◌++◌, ◌⊎◌, ◌≡◌, ℕ, suc, ◌+◌, ◌*◌, ◌%◌, ◌<◌, ◌≤◌, ◌^◌, length, get_or}
+use Rattle.std.specs.Prelude.{List, ◌++◌, ◌⊎◌, ◌≡◌, ℕ, suc, ◌+◌, ◌*◌, ◌%◌, ◌<◌, ◌≤◌, ◌^◌, length, get_or, Some, Ok, Err}
 use Rattle.chip.specs.declared.ChipBlock.{ChipBlock}
 use Rattle.spare.specs.Claims.{Writable}
 use Rattle.spare.specs.Writing.{spare_of}
 use Rattle.boot.specs.Counting.{block_at}
-use Rattle.boot.specs.declared.Counted.TheVariants.{Counts}
 use Rattle.boot.specs.declared.Listing.TheVariants.{ToMap, ToErase}
-use Rattle.boot.specs.declared.MapAnswer.TheVariants.{Mapped, OutOfOrder}
 use Rattle.boot.specs.declared.MapCounts.{MapCounts}
+use Rattle.boot.specs.declared.MapRefusal.TheVariants.{OutOfOrder}
 use Rattle.boot.specs.Mapping.{Blocks, above, list_of, map_of}
 
 -- the block at place i of a list
@@ -20,7 +19,7 @@ module _ (blocks : Blocks) (n : ℕ) where
   -- block b of the n counts, with boot number k and generation g
   pub record Carries (k b g : ℕ) : Type 0 where
     pub below : b < n
-    pub told : blocks b ≡ Counts (record { 0 = k }) (record { 0 = g })
+    pub told : blocks b ≡ Some (record { 0 = k }, record { 0 = g })
 
   -- no block but these carries number k
   abbrev pub Only : ℕ → (ℕ → Type 0) → Type 0
@@ -87,15 +86,15 @@ module _ (blocks : Blocks) (n : ℕ) where
 
   -- what the map answers is one or the other
   pub data Answered : Type 0 where
-    map : (c : MapCounts) → map_of blocks n ≡ Mapped c → Reliable c → Answered
-    refusal : (k : ℕ) → map_of blocks n ≡ OutOfOrder (record { 0 = k }) → Named k → Answered
+    map : (c : MapCounts) → map_of blocks n ≡ Ok c → Reliable c → Answered
+    refusal : (k : ℕ) → map_of blocks n ≡ Err (OutOfOrder (record { 0 = k })) → Named k → Answered
 
 -- of any blocks, as many as there are
 pub record LoaderRelies : Type 0 where
   -- a block whose first and last page were written as those of boot number k, generation g, counts with them
   pub written : (first last : List ℕ) (k g c d : ℕ) → k < 2 ^ 24 → g ≤ 3 → Writable first 0x01 (4 * k + g) c → Writable last 0x01 (4 * k + g) d
       → (before after : List ℕ) (b : ℕ) → length before ≡ 32 * b
-      → block_at (before ++ (spare_of first 0x01 (4 * k + g) c ++ (spare_of last 0x01 (4 * k + g) d ++ after))) b ≡ Counts (record { 0 = k }) (record { 0 = g })
+      → block_at (before ++ (spare_of first 0x01 (4 * k + g) c ++ (spare_of last 0x01 (4 * k + g) d ++ after))) b ≡ Some (record { 0 = k }, record { 0 = g })
   pub highest : (blocks : Blocks) (n : ℕ) → Highest blocks n
   pub answered : (blocks : Blocks) (n : ℕ) → Answered blocks n
   -- no number is both in order and out of order

@@ -1,14 +1,14 @@
 -- Document 02, T-01: the map of the boot blocks, from what each block tells.
-use Rattle.std.specs.Prelude.{Bool, true, false, cond, List, [], ◌∷◌, ◌++◌, ℕ, zero, suc, eqb, leb, ltb, length}
+use Rattle.std.specs.Prelude.{Bool, true, false, cond, List, [], ◌∷◌, ◌++◌, ℕ, zero, suc, eqb, leb, ltb, length, Some, None, Result, Ok, Err}
 use Rattle.chip.specs.Boot.{follows}
 use Rattle.chip.specs.declared.ChipBlock.{ChipBlock}
 use Rattle.chip.specs.declared.Generation.{Generation}
-use Rattle.boot.specs.declared.Counted.{Counted}
-use Rattle.boot.specs.declared.Counted.TheVariants.{Counts, PassedOver}
+use Rattle.boot.specs.Counting.{Counted}
 use Rattle.boot.specs.declared.Listing.{Listing}
 use Rattle.boot.specs.declared.Listing.TheVariants.{ToMap, ToErase}
-use Rattle.boot.specs.declared.MapAnswer.{MapAnswer}
-use Rattle.boot.specs.declared.MapAnswer.TheVariants.{Mapped, OutOfOrder}
+use Rattle.boot.specs.declared.MapCounts.{MapCounts}
+use Rattle.boot.specs.declared.MapRefusal.{MapRefusal}
+use Rattle.boot.specs.declared.MapRefusal.TheVariants.{OutOfOrder}
 use Rattle.boot.specs.declared.Standing.{Standing}
 use Rattle.boot.specs.declared.Standing.TheVariants.{Missing, One, Pair, Wrong}
 
@@ -23,8 +23,8 @@ pub record Copy : Type 0 where
 
 -- block b as a copy of boot number k, if it is one
 abbrev pub copy_of : ℕ → ℕ → Counted → List Copy
-copy_of k b PassedOver = []
-copy_of k b (Counts m g) = cond (eqb m.0 k) (record { block = record { 0 = b }; generation = g } ∷ []) []
+copy_of k b None = []
+copy_of k b (Some (m, g)) = cond (eqb m.0 k) (record { block = record { 0 = b }; generation = g } ∷ []) []
 
 -- the copies of boot number k among the first n blocks
 unfoldable pub copies : Blocks → ℕ → ℕ → List Copy
@@ -56,8 +56,8 @@ in_order Wrong = false
 
 -- one above the highest boot number found; 0 where there is no boot block at all
 abbrev pub above_with : ℕ → Counted → ℕ
-above_with m PassedOver = m
-above_with m (Counts k g) = cond (leb m k.0) (suc k.0) m
+above_with m None = m
+above_with m (Some (k, g)) = cond (leb m k.0) (suc k.0) m
 
 unfoldable pub above : Blocks → ℕ → ℕ
 above blocks zero = 0
@@ -92,8 +92,8 @@ unfoldable pub list_of : Listing → Blocks → ℕ → List ChipBlock
 list_of l blocks n = listed l (standing blocks n) (above blocks n)
 
 -- the map of n blocks: both counts, or refusal 13 with the smallest number that is out of order
-unfoldable pub map_of : Blocks → ℕ → MapAnswer
+unfoldable pub map_of : Blocks → ℕ → Result MapCounts MapRefusal
 map_of blocks n =
     cond (ltb (smallest_out blocks n) (above blocks n))
-    (OutOfOrder (record { 0 = smallest_out blocks n }))
-    (Mapped (record { mapped = length (list_of ToMap blocks n); erased = length (list_of ToErase blocks n) }))
+    (Err (OutOfOrder (record { 0 = smallest_out blocks n })))
+    (Ok (record { mapped = length (list_of ToMap blocks n); erased = length (list_of ToErase blocks n) }))

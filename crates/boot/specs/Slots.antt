@@ -1,13 +1,10 @@
 -- How the code keeps the standing of each boot number below 1,024: in a slot of 32 bits, so that 4 KiB hold them all. No answer depends on
 -- how a slot is laid out.
-use Rattle.std.specs.Prelude.{cond, List, [], ◌∷◌, ℕ, ◌+◌, ◌-◌, ◌*◌, ◌/◌, ◌%◌, eqb, leb, ltb, length, get_or, set}
+use Rattle.std.specs.Prelude.{cond, List, ℕ, ◌+◌, ◌-◌, ◌*◌, ◌/◌, ◌%◌, eqb, leb, ltb, length, get_or, set, Some, None}
 use Rattle.bits.specs.Bytes.{build}
 use Rattle.chip.specs.declared.ChipBlock.{ChipBlock}
 use Rattle.chip.specs.declared.Generation.{Generation}
-use Rattle.boot.specs.declared.Counted.{Counted}
-use Rattle.boot.specs.declared.Counted.TheVariants.{Counts, PassedOver}
-use Rattle.boot.specs.declared.Entry.{Entry}
-use Rattle.boot.specs.declared.Entry.TheVariants.{Block, Nothing}
+use Rattle.boot.specs.Counting.{Counted}
 use Rattle.boot.specs.declared.Standing.{Standing}
 use Rattle.boot.specs.declared.Standing.TheVariants.{Missing, One, Pair, Wrong}
 use Rattle.boot.specs.Mapping.{of_two}
@@ -40,19 +37,9 @@ joined Wrong b g = Wrong
 
 -- the slots after block b was looked at
 abbrev pub noted : List ℕ → ChipBlock → Counted → List ℕ
-noted slots b PassedOver = slots
-noted slots b (Counts k g) = cond (ltb k.0 (length slots)) (set slots k.0 (slot_of (joined (in_slot slots k.0) b g))) slots
+noted slots b None = slots
+noted slots b (Some (k, g)) = cond (ltb k.0 (length slots)) (set slots k.0 (slot_of (joined (in_slot slots k.0) b g))) slots
 
 -- the slots of the numbers below 1,024 that stand as f says
 unfoldable pub slots_of : (ℕ → Standing) → List ℕ
 slots_of f = build (λ k. slot_of (f k)) 1024
-
--- what a number brings to a list
-abbrev pub entry_blocks : Entry → List ChipBlock
-entry_blocks (Block b) = b ∷ []
-entry_blocks Nothing = []
-
--- a lent list of which so many places are filled, with that at the next
-abbrev pub put_at : List ℕ → ℕ → Entry → List ℕ
-put_at list filled (Block b) = set (set list (2 * filled) (b.0 / 256 % 256)) (2 * filled + 1) (b.0 % 256)
-put_at list filled Nothing = list

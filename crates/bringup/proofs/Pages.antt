@@ -1,9 +1,9 @@
 -- Which pages of a copy there are, and what the tests of a call come to.
 -- Assumes nothing.
+use Rattle.std.specs.Prelude.{Ok, Err}
 use mathlib.Core.Bool.{Bool, true, false, cond, ◌&&◌}
 use mathlib.Core.List.{List}
-use mathlib.Core.Logic.{◌≢◌}
-use mathlib.Core.Path.{◌≡◌, sym, ap, ◌∙◌}
+use mathlib.Core.Path.{◌≡◌, refl, ap}
 use Prim.Native.Nat.{ℕ, ◌<◌, ◌≤◌}
 use native.Mathlib.Omega.{arith}
 use borrow.Author.Tests.{leb-true, ltb-true, le-leb, lt-ltb, eq-eqb, ne_eqb}
@@ -14,16 +14,13 @@ use Rattle.bbt.specs.Copies.{Table}
 use Rattle.bbt.specs.Images.{chunk, Imaged, no_image, page-image, page_image}
 use Rattle.bbt.specs.Lent.{on_chip}
 use Rattle.bbt.specs.Starts.{AnyTable}
-use Rattle.bbt.specs.declared.Kind.{Kind}
 use Rattle.bbt.specs.declared.Kind.TheVariants.{Primary}
 use Rattle.bits.proofs.Both.{both_left, both_right}
 use Rattle.chip.specs.Large.{chip_of, bitmap_bytes, pages_of}
-use Rattle.chip.specs.declared.ChipAnswer.TheVariants.{Chip, Refused}
 use Rattle.chip.specs.declared.LargeChip.{LargeChip}
 use Rattle.chip.specs.declared.Refusal.{Refusal}
 use Rattle.chip.specs.declared.Refusal.TheVariants.{Length}
 use Rattle.images.specs.Made.{image_into, image_answer_by, image_after_by}
-use Rattle.images.specs.declared.ImageAnswer.TheVariants.{Made}
 use Rattle.bringup.specs.TablePages.{kind_numbered, is_copy_page, copy_image, table_page, lent_table_page, table_page_answer, table_page_after}
 
 -- ---- the tests of a page
@@ -40,42 +37,75 @@ module _ (chip : LargeChip) (kind version p : ℕ) (is : is_copy_page chip kind 
   page_fits = ltb-true p (pages_of chip) (both_right (leb 1 kind && leb kind 2 && leb version 255) (ltb p (pages_of chip)) is)
 
   -- its image, put into a room for it
-  pub made_page : (bitmap room : List ℕ) {k : Kind} {part room' : List ℕ} → k ≡ kind_numbered kind → part ≡ chunk p bitmap → length room ≡ 2112
-      → room' ≡ image_into k version part room
-      → (Made ≡ image_answer_by (copy_image chip bitmap kind version p)) × (room' ≡ image_after_by (copy_image chip bitmap kind version p) room)
+  pub made_answer : (bitmap : List ℕ) → image_answer_by (copy_image chip bitmap kind version p) ≡ Ok tt
+  unfolding copy_image
+  made_answer bitmap = rw is refl
+
+  pub made_after : (bitmap room : List ℕ) → length room ≡ 2112
+      → image_into (kind_numbered kind) version (chunk p bitmap) room ≡ image_after_by (copy_image chip bitmap kind version p) room
   unfolding copy_image image_into page_image
-  made_page bitmap room {part = part} ek ep len e =
-      let short : length part ≤ 2048 = rw ep (chunk_length p bitmap) in
-      (rw is, e ∙ rw (is, eq-eqb (length room) 2112 len, le-leb (length part) 2048 short, ek, ep))
+  made_after bitmap room len = rw (is, eq-eqb (length room) 2112 len, le-leb (length (chunk p bitmap)) 2048 (chunk_length p bitmap)) refl
 
 -- ---- the tests of a call, in their order
 module _ (n size : ℕ) (bitmap : List ℕ) (kind version p : ℕ) (room : List ℕ) where
   -- what is answered, and left in the room
-  pub told : (x : Imaged) → lent_table_page n size bitmap kind version p room ≡ x
-      → (image_answer_by x ≡ table_page_answer n size bitmap kind version p room) × (image_after_by x room ≡ table_page_after n size bitmap kind version p room)
-  unfolding table_page_answer table_page_after
-  told x e = (ap image_answer_by (sym e), ap (λ (y : Imaged). image_after_by y room) (sym e))
+  record Tells (x : Imaged) : Type 0 where
+    answer : table_page_answer n size bitmap kind version p room ≡ image_answer_by x
+    out : table_page_after n size bitmap kind version p room ≡ image_after_by x room
 
-  pub refused_page : (r : Refusal) → chip_of n size ≡ Refused r → lent_table_page n size bitmap kind version p room ≡ no_image r
+  tells : (x : Imaged) → lent_table_page n size bitmap kind version p room ≡ x → Tells x
+  unfolding table_page_answer table_page_after
+  tells x e = record { answer = ap image_answer_by e; out = ap (λ (y : Imaged). image_after_by y room) e }
+
+  refused_page : (r : Refusal) → chip_of n size ≡ Err r → Tells (no_image r)
   unfolding lent_table_page table_page
-  refused_page r e = go (eqb (length room) 2112)
+  refused_page r e = tells (no_image r) (go (eqb (length room) 2112))
     where
       go : (t : Bool) → cond t (table_page n size bitmap kind version p) (on_chip no_image (chip_of n size) (λ chip. no_image Length)) ≡ no_image r
       go true = rw e
       go false = rw e
 
-  module _ (chip : LargeChip) (e : chip_of n size ≡ Chip chip) where
-    pub no_room : length room ≢ 2112 → lent_table_page n size bitmap kind version p room ≡ no_image Length
+  pub refused_answer : (r : Refusal) → chip_of n size ≡ Err r → table_page_answer n size bitmap kind version p room ≡ Err r
+  refused_answer r e = (refused_page r e).answer
+
+  pub refused_after : (r : Refusal) → chip_of n size ≡ Err r → table_page_after n size bitmap kind version p room ≡ room
+  refused_after r e = (refused_page r e).out
+
+  module _ (chip : LargeChip) (e : chip_of n size ≡ Ok chip) where
+    -- another length than the page's or the bitmap's
+    short_page : (length room ≡ 2112 → ⊥) → Tells (no_image Length)
     unfolding lent_table_page
-    no_room h = rw (ne_eqb (length room) 2112 h, e)
+    short_page h = tells (no_image Length) (rw (ne_eqb (length room) 2112 h, e))
 
-    pub no_bitmap : length room ≡ 2112 → length bitmap ≢ bitmap_bytes chip → lent_table_page n size bitmap kind version p room ≡ no_image Length
+    short_bitmap : (length bitmap ≡ bitmap_bytes chip → ⊥) → Tells (no_image Length)
     unfolding lent_table_page table_page
-    no_bitmap h d = rw (eq-eqb (length room) 2112 h, e, ne_eqb (length bitmap) (bitmap_bytes chip) d)
+    short_bitmap h = tells (no_image Length) (go (eqb (length room) 2112))
+      where
+        go : (t : Bool) → cond t (table_page n size bitmap kind version p) (on_chip no_image (chip_of n size) (λ chip. no_image Length)) ≡ no_image Length
+        go true = rw (e, ne_eqb (length bitmap) (bitmap_bytes chip) h)
+        go false = rw e
 
-    pub lent_page : length room ≡ 2112 → length bitmap ≡ bitmap_bytes chip → lent_table_page n size bitmap kind version p room ≡ copy_image chip bitmap kind version p
+    pub short_page_answer : (length room ≡ 2112 → ⊥) → table_page_answer n size bitmap kind version p room ≡ Err Length
+    short_page_answer h = (short_page h).answer
+
+    pub short_page_after : (length room ≡ 2112 → ⊥) → table_page_after n size bitmap kind version p room ≡ room
+    short_page_after h = (short_page h).out
+
+    pub short_bitmap_answer : (length bitmap ≡ bitmap_bytes chip → ⊥) → table_page_answer n size bitmap kind version p room ≡ Err Length
+    short_bitmap_answer h = (short_bitmap h).answer
+
+    pub short_bitmap_after : (length bitmap ≡ bitmap_bytes chip → ⊥) → table_page_after n size bitmap kind version p room ≡ room
+    short_bitmap_after h = (short_bitmap h).out
+
+    lent_page : length room ≡ 2112 → length bitmap ≡ bitmap_bytes chip → Tells (copy_image chip bitmap kind version p)
     unfolding lent_table_page table_page
-    lent_page h d = rw (eq-eqb (length room) 2112 h, e, eq-eqb (length bitmap) (bitmap_bytes chip) d)
+    lent_page h d = tells (copy_image chip bitmap kind version p) (rw (eq-eqb (length room) 2112 h, e, eq-eqb (length bitmap) (bitmap_bytes chip) d))
+
+    pub page_answer : length room ≡ 2112 → length bitmap ≡ bitmap_bytes chip → table_page_answer n size bitmap kind version p room ≡ image_answer_by (copy_image chip bitmap kind version p)
+    page_answer h d = (lent_page h d).answer
+
+    pub page_after : length room ≡ 2112 → length bitmap ≡ bitmap_bytes chip → table_page_after n size bitmap kind version p room ≡ image_after_by (copy_image chip bitmap kind version p) room
+    page_after h d = (lent_page h d).out
 
 -- ---- the pages of a primary of the chip
 module _ {chip : LargeChip} (ok : Judged chip) (t : Table) (any : AnyTable chip t) (p : ℕ) (l : p < pages_of chip) where

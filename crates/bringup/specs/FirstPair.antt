@@ -1,7 +1,7 @@
 -- A chip's first pair of tables, which no plan makes. In a region with no good copy a block that is not readable as bad is erased, and the P pages
 -- of a primary are written to it, in rising order, as `table_page` gives them. The mirror is then written by a recovery. Power may be cut and steps
 -- may fail anywhere, by the same rules as in the histories.
-use Rattle.std.specs.Prelude.{true, false, List, [], ◌∷◌, ◌≢◌, ◌≡◌, ℕ, ◌<◌, get_or}
+use Rattle.std.specs.Prelude.{true, false, List, [], ◌∷◌, ◌≢◌, ◌≡◌, ℕ, ◌<◌, get_or, Ok}
 use Rattle.bbt.specs.CarriedOut.{Carried}
 use Rattle.bbt.specs.Copies.{Table, table, reads_bad}
 use Rattle.bbt.specs.Histories.{OthersKept, Done, Cut, one_table, snapshot, answer, empty, World, world, History}
@@ -15,7 +15,6 @@ use Rattle.bbt.specs.Starts.{AnyTable}
 use Rattle.bbt.specs.declared.Kind.{Kind}
 use Rattle.bbt.specs.declared.Kind.TheVariants.{Primary, Mirror, Neither}
 use Rattle.chip.specs.Large.{chip_of, pages_of}
-use Rattle.chip.specs.declared.ChipAnswer.TheVariants.{Chip}
 use Rattle.chip.specs.declared.LargeChip.{LargeChip}
 use Rattle.chip.specs.declared.Refusal.TheVariants.{Range, NoCopy, NoTarget}
 use Rattle.bringup.specs.TablePages.{table_page}
@@ -124,4 +123,4 @@ pub record FirstTables (chip : LargeChip) : Type 0 where
   pub from_one_copy : (s : Region chip) (k : Kind) (b : ℕ) (t : Table) → OneCopy s k b t → FromOneCopy s k b t
 
 abbrev pub FirstPair : Type 0
-FirstPair = (n size : ℕ) (chip : LargeChip) → chip_of n size ≡ Chip chip → FirstTables chip
+FirstPair = (n size : ℕ) (chip : LargeChip) → chip_of n size ≡ Ok chip → FirstTables chip

@@ -1,14 +1,14 @@
 -- A page of a copy of any table, asked for by the table, the copy's kind and version, and the page's number.
-use Rattle.std.specs.Prelude.{Bool, cond, ◌&&◌, List, ℕ, eqb, leb, ltb, length}
+use Rattle.std.specs.Prelude.{Bool, cond, ◌&&◌, List, ℕ, eqb, leb, ltb, length, ⊤, Result}
 use Rattle.bbt.specs.Images.{Imaged, no_image, page-image, page_image}
 use Rattle.bbt.specs.Lent.{on_chip}
 use Rattle.bbt.specs.declared.Kind.{Kind}
 use Rattle.bbt.specs.declared.Kind.TheVariants.{Primary, Mirror, Neither}
 use Rattle.chip.specs.Large.{chip_of, bitmap_bytes, pages_of}
 use Rattle.chip.specs.declared.LargeChip.{LargeChip}
+use Rattle.chip.specs.declared.Refusal.{Refusal}
 use Rattle.chip.specs.declared.Refusal.TheVariants.{Length, Range}
 use Rattle.images.specs.Made.{image_answer_by, image_after_by}
-use Rattle.images.specs.declared.ImageAnswer.{ImageAnswer}
 
 -- the kinds by number: 1 the primary, 2 the mirror
 unfoldable pub kind_numbered : ℕ → Kind
@@ -34,7 +34,7 @@ lent_table_page n size bitmap kind version p room =
     cond (eqb (length room) 2112) (table_page n size bitmap kind version p) (on_chip no_image (chip_of n size) (λ chip. no_image Length))
 
 -- what is answered, and the lent room after it
-unfoldable pub table_page_answer : ℕ → ℕ → List ℕ → ℕ → ℕ → ℕ → List ℕ → ImageAnswer
+unfoldable pub table_page_answer : ℕ → ℕ → List ℕ → ℕ → ℕ → ℕ → List ℕ → Result ⊤ Refusal
 table_page_answer n size bitmap kind version p room = image_answer_by (lent_table_page n size bitmap kind version p room)
 
 unfoldable pub table_page_after : ℕ → ℕ → List ℕ → ℕ → ℕ → ℕ → List ℕ → List ℕ

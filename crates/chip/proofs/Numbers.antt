@@ -6,9 +6,9 @@ use Prim.Native.Nat.{ℕ, ◌*◌, ◌%◌, ◌≤◌}
 use native.Mathlib.Omega.{arith}
 use borrow.Author.Tests.{eqb-true, leb-true}
 use lib.Dec.{eqb, leb}
+use Rattle.std.specs.Prelude.{Ok}
 use Rattle.bits.proofs.Both.{both_left, both_right}
 use Rattle.chip.specs.Large.{is_blocks, is_region, is_chip, chip_of}
-use Rattle.chip.specs.declared.ChipAnswer.TheVariants.{Chip}
 use Rattle.chip.specs.declared.LargeChip.{LargeChip}
 
 pub record Blocks (n : ℕ) : Type 0 where
@@ -42,7 +42,7 @@ region_told n size e =
     }
 
 -- numbers that pass are their own low bits
-pub made_chip : (n size : ℕ) (chip : LargeChip) → is_chip n size ≡ true → chip ≡ record { blocks = n % 65536; region = size % 256 } → chip_of n size ≡ Chip chip
+pub made_chip : (n size : ℕ) (chip : LargeChip) → is_chip n size ≡ true → chip ≡ record { blocks = n % 65536; region = size % 256 } → chip_of n size ≡ Ok chip
 unfolding chip_of
 made_chip n size chip e made =
     let blocks : Blocks n = blocks_told n (both_left (is_blocks n) (is_region n size) e) in

@@ -1,8 +1,7 @@
 -- Document 01, "Large chip": the number of blocks N and of region blocks, the bitmap's bytes, its pages P, and the region's sizes.
-use Rattle.std.specs.Prelude.{Bool, cond, ◌&&◌, ℕ, ◌+◌, ◌*◌, ◌/◌, ◌%◌, eqb, leb}
-use Rattle.chip.specs.declared.ChipAnswer.{ChipAnswer}
-use Rattle.chip.specs.declared.ChipAnswer.TheVariants.{Chip, Refused}
+use Rattle.std.specs.Prelude.{Bool, cond, ◌&&◌, ℕ, ◌+◌, ◌*◌, ◌/◌, ◌%◌, eqb, leb, Result, Ok, Err}
 use Rattle.chip.specs.declared.LargeChip.{LargeChip}
+use Rattle.chip.specs.declared.Refusal.{Refusal}
 use Rattle.chip.specs.declared.Refusal.TheVariants.{Range}
 
 -- N is a multiple of 4 from 8 to 32,768
@@ -18,8 +17,8 @@ abbrev pub is_chip : ℕ → ℕ → Bool
 is_chip n size = is_blocks n && is_region n size
 
 -- the chip of N blocks, whose region is the last `size` of them, or refusal 2
-unfoldable pub chip_of : ℕ → ℕ → ChipAnswer
-chip_of n size = cond (is_chip n size) (Chip (record { blocks = n; region = size })) (Refused Range)
+unfoldable pub chip_of : ℕ → ℕ → Result LargeChip Refusal
+chip_of n size = cond (is_chip n size) (Ok (record { blocks = n; region = size })) (Err Range)
 
 -- the bitmap has N/4 bytes
 abbrev pub bitmap_bytes : LargeChip → ℕ

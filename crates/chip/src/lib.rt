@@ -5,6 +5,7 @@ ghost use Rattle.std.specs.Prelude.{◌≡◌, ◌%◌};
 ghost use Rattle.chip.specs.Boot.{path_of, boot_of, follows};
 ghost use Rattle.chip.specs.Large.{is_blocks, is_region, is_chip, chip_of, bitmap_bytes, pages_of, region_pages, region_bytes};
 ghost use Rattle.chip.specs.Refusals.{refusal_number, refusal_detail};
+ghost use Rattle.chip.specs.declared.Refusal.TheVariants.{BadBlock};
 
 // The small chip: 512 data bytes and 16 spare bytes a page, in two halves with a code of three bytes each.
 #[derive(Clone, Copy)]
@@ -62,13 +63,6 @@ pub struct LargeChip {
     pub blocks: u16,
 }
 
-// A large chip, or the refusal of its numbers of blocks.
-#[derive(Clone, Copy)]
-pub enum ChipAnswer {
-    Chip(LargeChip),
-    Refused(Refusal),
-}
-
 impl LargeChip {
     pub const PAGE: usize = 2048;
 
@@ -96,10 +90,7 @@ impl LargeChip {
     pub fn exists(n: u64, size: u64) -> bool
         ensures { result ≡ is_chip n size }
     {
-        if is_blocks(n) {
-            return is_region(n, size);
-        }
-        false
+        is_blocks(n) && is_region(n, size)
     }
 
     // That chip, where there is one; else a chip of these numbers' low bits.
@@ -113,13 +104,13 @@ impl LargeChip {
     }
 
     // The chip of n blocks, of which the last `size` are the region, or the refusal of these numbers.
-    pub fn new(n: u64, size: u64) -> ChipAnswer
+    pub fn new(n: u64, size: u64) -> Result<LargeChip, Refusal>
         ensures { result ≡ chip_of n size }
     {
         if LargeChip::exists(n, size) {
-            return ChipAnswer::Chip(LargeChip::of(n, size));
+            return Ok(LargeChip::of(n, size));
         }
-        ChipAnswer::Refused(Refusal::Range)
+        Err(Refusal::Range)
     }
 
     // The bytes of the bitmap: two bits a block.
@@ -152,27 +143,19 @@ impl LargeChip {
 }
 
 // Can a large chip have n blocks: a multiple of 4 from 8 to 32,768?
+#[tactic(auto, unfolding(crate::specs::Large::is_blocks))]
 fn is_blocks(n: u64) -> bool
     ensures { result ≡ is_blocks n }
 {
-    if n % 4 == 0 {
-        if LargeChip::FEWEST_BLOCKS <= n {
-            return n <= LargeChip::MOST_BLOCKS;
-        }
-    }
-    false
+    n % 4 == 0 && LargeChip::FEWEST_BLOCKS <= n && n <= LargeChip::MOST_BLOCKS
 }
 
 // Can `size` of its n blocks be the region: 4 to 7, and at most half?
+#[tactic(auto, unfolding(crate::specs::Large::is_region))]
 fn is_region(n: u64, size: u64) -> bool
     ensures { result ≡ is_region n size }
 {
-    if LargeChip::SMALLEST_REGION <= size {
-        if size <= LargeChip::LARGEST_REGION {
-            return 2 * size <= n;
-        }
-    }
-    false
+    LargeChip::SMALLEST_REGION <= size && size <= LargeChip::LARGEST_REGION && 2 * size <= n
 }
 
 // The number of a boot block, as a path tells it. Never a chip block's number.
@@ -184,26 +167,12 @@ pub struct BootNumber(pub u32);
 pub struct Generation(pub u8);
 
 // The number of a block on its chip.
-#[derive(Clone, Copy)]
+#[derive(Clone, Copy, PartialEq, Eq)]
 pub struct ChipBlock(pub u32);
 
 // The number of a block in the table region, from 0, lowest first.
-#[derive(Clone, Copy)]
+#[derive(Clone, Copy, PartialEq, Eq)]
 pub struct RegionBlock(pub u8);
-
-// The path of a boot page, or its refusal.
-#[derive(Clone, Copy)]
-pub enum PathAnswer {
-    Path(u32),
-    Refused(Refusal),
-}
-
-// A path's boot number and generation, or its refusal.
-#[derive(Clone, Copy)]
-pub enum BootAnswer {
-    Boot(BootNumber, Generation),
-    Refused(Refusal),
-}
 
 impl Generation {
     // Is this the generation after another: one more, modulo 4?
@@ -216,26 +185,28 @@ impl Generation {
 
 impl BootNumber {
     // The path of this boot number, below 2^24, and a generation from 0 to 3.
-    pub fn path(self, generation: Generation) -> PathAnswer
+    #[tactic(auto, unfolding(crate::specs::Boot::path_of))]
+    pub fn path(self, generation: Generation) -> Result<u32, Refusal>
         ensures { result ≡ path_of self.0 generation.0 }
     {
         if SmallChip::BOOTS <= self.0 {
-            return PathAnswer::Refused(Refusal::Range);
+            return Err(Refusal::Range);
         }
         if SmallChip::LAST_GENERATION < generation.0 {
-            return PathAnswer::Refused(Refusal::Range);
+            return Err(Refusal::Range);
         }
-        PathAnswer::Path(4 * self.0 + (generation.0 as u32))
+        Ok(4 * self.0 + (generation.0 as u32))
     }
 
     // The boot number and the generation of a path below 2^26.
-    pub fn of_path(path: u32) -> BootAnswer
+    #[tactic(auto, unfolding(crate::specs::Boot::boot_of))]
+    pub fn of_path(path: u32) -> Result<(BootNumber, Generation), Refusal>
         ensures { result ≡ boot_of path }
     {
         if SmallChip::WORDS <= path {
-            return BootAnswer::Refused(Refusal::Range);
+            return Err(Refusal::Range);
         }
-        BootAnswer::Boot(BootNumber(path / 4), Generation((path % 4) as u8))
+        Ok((BootNumber(path / 4), Generation((path % 4) as u8)))
     }
 }
 
@@ -253,7 +224,7 @@ pub enum Half {
     Second,
 }
 
-// The refusals of document 01 and of document 02, but for 13, which has a boot number with it (`boot::MapAnswer`).
+// The refusals of document 01 and of document 02, but for 13, which has a boot number with it (`boot::MapRefusal`).
 #[derive(Clone, Copy)]
 pub enum Refusal {
     Length,
@@ -270,6 +241,15 @@ pub enum Refusal {
     NotSettled,
     NoTarget,
     ZeroFailed,
+}
+
+// A bad block is refused with its kind.
+impl From<BadKind> for Refusal {
+    ghost from_gives = { λ k r. r ≡ BadBlock k };
+
+    fn from(kind: BadKind) -> Refusal {
+        Refusal::BadBlock(kind)
+    }
 }
 
 impl Refusal {
@@ -300,26 +280,11 @@ impl Refusal {
         ensures { result ≡ refusal_detail self }
     {
         match self {
-            Refusal::Length => 0,
-            Refusal::Range => 0,
-            Refusal::BadBlock(k) => match k {
-                BadKind::Factory => 1,
-                BadKind::Late => 2,
-            },
-            Refusal::Tag => 0,
-            Refusal::Erased => 0,
-            Refusal::NotOurs => 0,
-            Refusal::NotOursRepaired => 0,
-            Refusal::Unrepairable(h) => match h {
-                Half::First => 1,
-                Half::Second => 2,
-            },
-            Refusal::NoCopy => 0,
-            Refusal::SeveralCopies => 0,
-            Refusal::Opposite => 0,
-            Refusal::NotSettled => 0,
-            Refusal::NoTarget => 0,
-            Refusal::ZeroFailed => 0,
+            Refusal::BadBlock(BadKind::Factory) => 1,
+            Refusal::BadBlock(BadKind::Late) => 2,
+            Refusal::Unrepairable(Half::First) => 1,
+            Refusal::Unrepairable(Half::Second) => 2,
+            _ => 0,
         }
     }
 }

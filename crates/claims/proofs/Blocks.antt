@@ -1,5 +1,6 @@
 -- The chip blocks that are told are from N − size to N − 1: each is one of the region's, the last blocks of the chip.
 -- Assumes nothing.
+use Rattle.std.specs.Prelude.{Result, Ok, Err, Some}
 use mathlib.Core.Bool.{Bool, true, false, cond, ◌&&◌}
 use mathlib.Core.List.{List, [], ◌∷◌, map}
 use mathlib.Core.Option.{Option, none, some}
@@ -23,15 +24,12 @@ use Rattle.bbt.specs.PowerCuts.{InRegion}
 use Rattle.bbt.specs.Told.{chip_block, told_answer, told_step, nth_step}
 use Rattle.bbt.specs.declared.Kind.{Kind}
 use Rattle.bbt.specs.declared.Kind.TheVariants.{Mirror}
-use Rattle.bbt.specs.declared.PlanAnswer.TheVariants.{Refused as NotPlanned}
 use Rattle.bbt.specs.declared.Step.{Step as ToldStep}
 use Rattle.chip.specs.Large.{chip_of, bitmap_bytes, pages_of}
-use Rattle.chip.specs.declared.ChipAnswer.{ChipAnswer}
-use Rattle.chip.specs.declared.ChipAnswer.TheVariants.{Chip, Refused as NoChip}
 use Rattle.chip.specs.declared.LargeChip.{LargeChip}
+use Rattle.chip.specs.declared.Refusal.{Refusal}
 use Rattle.plan.specs.Answers.{plan_answer}
 use Rattle.table.specs.Tables.{told_reading, table_answer}
-use Rattle.table.specs.declared.TableAnswer.TheVariants.{Refused as NotRead}
 use Rattle.claims.specs.Blocks.{TableInRegion, StepInRegion, PlanInRegion, BlocksInRegion}
 
 -- what is found among the numbers below n is below n
@@ -48,7 +46,7 @@ highest_below m (suc n) f h = go (f n) (highest_below m n f (omega arith))
     go true r = omega arith
     go false r = r
 
-module _ (n size : ℕ) (image status : List ℕ) (chip : LargeChip) (is : chip_of n size ≡ Chip chip) where
+module _ (n size : ℕ) (image status : List ℕ) (chip : LargeChip) (is : chip_of n size ≡ Ok chip) where
   abbrev own : LargeChip
   own = record { blocks = n; region = size }
 
@@ -197,7 +195,7 @@ module _ (n size : ℕ) (image status : List ℕ) (chip : LargeChip) (is : chip_
       (step_fails_in q (step_at (steps_of (pages_of chip) q) i) (λ x e. steps-in q h i x e) h)
 
   -- ---- as they are told
-  step_told : (e : Step) → block_of e < chip.region → StepInRegion own (told_step chip e)
+  step_told : (e : Step) → block_of e < chip.region → StepInRegion own (Some (told_step chip e))
   step_told (erase b) h = inside b h
   step_told (write b p k t) h = inside b h
   step_told (zeros b) h = inside b h
@@ -223,12 +221,12 @@ pub blocks_in_region : (n size : ℕ) (image status : List ℕ) → BlocksInRegi
 unfolding table_answer table_reading lent_reading plan_answer lent_plan
 blocks_in_region n size image status = record { tables = λ room. tables room (chip_of n size) refl; plans = λ call failed. plans call failed (chip_of n size) refl }
   where
-    tables : (room : List ℕ) (a : ChipAnswer) → chip_of n size ≡ a
-        → TableInRegion (record { blocks = n; region = size }) (on_chip NotRead a (λ chip. told_reading chip (on_chip refused a (λ own. lent_reading own image status room))))
-    tables room (NoChip r) e = tt
-    tables room (Chip chip) e = table_judged n size image status chip e (region_lent chip image status && eqb (length room) (bitmap_bytes chip)) (statuses_right status)
+    tables : (room : List ℕ) (a : Result LargeChip Refusal) → chip_of n size ≡ a
+        → TableInRegion (record { blocks = n; region = size }) (on_chip Err a (λ chip. told_reading chip (on_chip refused a (λ own. lent_reading own image status room))))
+    tables room (Err r) e = tt
+    tables room (Ok chip) e = table_judged n size image status chip e (region_lent chip image status && eqb (length room) (bitmap_bytes chip)) (statuses_right status)
 
-    plans : (call : Call) (failed : List ℕ) (a : ChipAnswer) → chip_of n size ≡ a
-        → PlanInRegion (record { blocks = n; region = size }) (on_chip NotPlanned a (λ chip. told_answer chip (lent_plan chip call image status failed)))
-    plans call failed (NoChip r) e = tt
-    plans call failed (Chip chip) e = plan_judged n size image status chip e call failed (region_lent chip image status && call_lent chip call) (statuses_right status)
+    plans : (call : Call) (failed : List ℕ) (a : Result LargeChip Refusal) → chip_of n size ≡ a
+        → PlanInRegion (record { blocks = n; region = size }) (on_chip Err a (λ chip. told_answer chip (lent_plan chip call image status failed)))
+    plans call failed (Err r) e = tt
+    plans call failed (Ok chip) e = plan_judged n size image status chip e call failed (region_lent chip image status && call_lent chip call) (statuses_right status)

@@ -1,6 +1,7 @@
 -- The answer of ream_boot_map and its lists are the map's: both counts fit sixteen bits each, since no more blocks are listed than the 1,024
 -- there can be, and so do the blocks.
 -- Assumes nothing.
+use Rattle.std.specs.Prelude.{Ok, Err}
 use mathlib.Core.Bool.{Bool, true, false, ◌&&◌, false≢true}
 use mathlib.Core.List.{List, [], ◌∷◌, ◌++◌}
 use mathlib.Core.Path.{◌≡◌, refl, sym, ◌∙◌, ap}
@@ -19,8 +20,8 @@ use Rattle.boot.specs.Loader.{placed, Reliable, Answered, map, refusal}
 use Rattle.boot.specs.Mapping.{list_of, map_of}
 use Rattle.boot.specs.declared.Listing.{Listing}
 use Rattle.boot.specs.declared.Listing.TheVariants.{ToMap, ToErase}
-use Rattle.boot.specs.declared.MapAnswer.TheVariants.{Mapped, OutOfOrder, Refused}
 use Rattle.boot.specs.declared.MapCounts.{MapCounts}
+use Rattle.boot.specs.declared.MapRefusal.TheVariants.{Refused, OutOfOrder}
 use Rattle.chip.specs.declared.BootNumber.{BootNumber}
 use Rattle.chip.specs.declared.ChipBlock.{ChipBlock}
 use Rattle.chip.specs.declared.Refusal.{Refusal}
@@ -54,14 +55,14 @@ list_holds l n count spares before e small =
 
 module _ (n : ℕ) (spares mapped erased : List ℕ) where
   -- ---- a refusal
-  code_refused : (r : Refusal) → map_answer n spares mapped erased ≡ Refused r → answer n spares mapped erased ≡ refusal_code r
+  code_refused : (r : Refusal) → map_answer n spares mapped erased ≡ Err (Refused r) → answer n spares mapped erased ≡ refusal_code r
   unfolding map_code
   code_refused r e = ap map_code_by e
 
-  unchanged : (r : Refusal) → map_answer n spares mapped erased ≡ Refused r → Unchanged n spares mapped erased
+  unchanged : (r : Refusal) → map_answer n spares mapped erased ≡ Err (Refused r) → Unchanged n spares mapped erased
   unchanged r e = record { same_mapped = rw e refl; same_erased = rw e refl }
 
-  code_order : (k : BootNumber) → map_answer n spares mapped erased ≡ OutOfOrder k → answer n spares mapped erased ≡ 13 + 2 ^ 8 * k.0
+  code_order : (k : BootNumber) → map_answer n spares mapped erased ≡ Err (OutOfOrder k) → answer n spares mapped erased ≡ 13 + 2 ^ 8 * k.0
   unfolding map_code
   code_order k e = ap map_code_by e
 
@@ -81,11 +82,11 @@ module _ (n : ℕ) (spares mapped erased : List ℕ) where
   fitting_lent f = rw (eq-eqb _ _ f.spare_bytes, eq-eqb _ _ f.mapped_bytes, eq-eqb _ _ f.erased_bytes) refl
 
   -- ---- the map
-  code_mapped : (c : MapCounts) → map_answer n spares mapped erased ≡ Mapped c → answer n spares mapped erased ≡ 2 ^ 8 * c.mapped + 2 ^ 24 * c.erased
+  code_mapped : (c : MapCounts) → map_answer n spares mapped erased ≡ Ok c → answer n spares mapped erased ≡ 2 ^ 8 * c.mapped + 2 ^ 24 * c.erased
   unfolding map_code
   code_mapped c e = ap map_code_by e
 
-  told_map : n ≤ 1024 → (c : MapCounts) → map_answer n spares mapped erased ≡ Mapped c → Reliable (block_at spares) n c → Map n spares mapped erased
+  told_map : n ≤ 1024 → (c : MapCounts) → map_answer n spares mapped erased ≡ Ok c → Reliable (block_at spares) n c → Map n spares mapped erased
   told_map few c e r =
       let code = code_mapped c e in
       let small : c.mapped + c.erased ≤ n = rw (r.mapped_count, r.erased_count) r.fits in
@@ -112,10 +113,10 @@ boot_map_in_c n spares mapped erased = go (leb n 1024) refl (is_lent n spares ma
   where
     go : (small : Bool) → leb n 1024 ≡ small → (lent : Bool) → is_lent n spares mapped erased ≡ lent → Told n spares mapped erased
     go false e lent f =
-        let refused : map_answer n spares mapped erased ≡ Refused Range = rw e refl in
+        let refused : map_answer n spares mapped erased ≡ Err (Refused Range) = rw e refl in
         range (leb-false n 1024 e) (code_refused n spares mapped erased Range refused) (unchanged n spares mapped erased Range refused)
     go true e false f =
-        let refused : map_answer n spares mapped erased ≡ Refused Length = rw (e, f) refl in
+        let refused : map_answer n spares mapped erased ≡ Err (Refused Length) = rw (e, f) refl in
         wrong_length (leb-true n 1024 e) (λ fit. false≢true (sym f ∙ fitting_lent n spares mapped erased fit)) (code_refused n spares mapped erased Length refused)
         (unchanged n spares mapped erased Length refused)
     go true e true f =

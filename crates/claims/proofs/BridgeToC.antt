@@ -1,5 +1,6 @@
 -- The bridge to C: each part of what a driver finds is a law of `Found`; the blocks of a settled pair are below N.
 -- Assumes nothing.
+use Rattle.std.specs.Prelude.{Result}
 use mathlib.Core.List.{List}
 use mathlib.Core.Path.{◌≡◌, ap, ◌∙◌, subst}
 use Prim.Native.Nat.{ℕ, ◌+◌, ◌*◌, ◌/◌, ◌%◌, ◌<◌, ◌≤◌}
@@ -15,17 +16,19 @@ use Rattle.bbt.specs.Regions.{Region, view}
 use Rattle.bbt.specs.Told.{chip_block, told_plan, told_answer, told_steps}
 use Rattle.chip.specs.Large.{bitmap_bytes}
 use Rattle.chip.specs.declared.LargeChip.{LargeChip}
+use Rattle.chip.specs.declared.Refusal.{Refusal}
 use Rattle.images.specs.Made.{image_answer_by, image_after_by}
 use Rattle.packing.specs.Packing.{steps_put}
-use Rattle.reamsickle.specs.LargeBoundary.{table_code_by, plan_code_by, steps_put_by, image_code_by}
+use Rattle.reamsickle.specs.Boundary.{code_by}
+use Rattle.reamsickle.specs.LargeBoundary.{table_code_by, plan_code_by, steps_put_by}
 use Rattle.table.proofs.Bridge.{read_bridged}
 use Rattle.table.specs.Tables.{told_reading, room_by}
-use Rattle.table.specs.declared.TableAnswer.{TableAnswer}
+use Rattle.table.specs.declared.Pair.{Pair}
 use Rattle.claims.specs.Blocks.{TableInRegion}
 use Rattle.claims.specs.Driver.{version_in, primary_in, mirror_in, step_byte, read_told}
 use Rattle.claims.specs.Found.{PlanFound, FindsPlans, TableFound, FindsTables, BridgeToC}
 use Rattle.claims.proofs.Blocks.{blocks_in_region}
-use Rattle.claims.proofs.Found.{step-byte, as_many, plan-told, steps-told, plan_answered, version_told, count_told, filled, page_answered, page_filled, read_told_lem, bitmap-told, code_read, read_answered, table-told}
+use Rattle.claims.proofs.Found.{at_place, step-byte, as_many, plan-told, steps-told, plan_answered, version_told, count_told, filled, page_answered, page_filled, read_told_lem, bitmap-told, code_read, read_answered, table-told}
 
 -- the blocks in an answer: bits 16 to 31, and 32 to 47
 module _ (v a b : ℕ) (byte : v < 256) (ha : a < 65536) (hb : b < 65536) where
@@ -48,9 +51,13 @@ module _ {chip : LargeChip} (ok : Judged chip) (a : Snapshot chip) where
     answered = plan_answered ok a call steps long q e;
     version = version_told ok a call steps long q e;
     count = count_told ok a call steps long q e;
-    each = λ i k hi hk.
-        ap (λ (l : List ℕ). step_byte l i k) (filled ok a call steps long q e)
-        ∙ step-byte (told_steps (told_plan chip q)) (drop (4 * length (told_steps (told_plan chip q))) steps) i k (omega (arith, as_many chip q)) hk;
+    each = λ i hi.
+        let s = at_place (told_steps (told_plan chip q)) i (omega (arith, as_many chip q)) in (
+          s.0,
+          s.1,
+          λ k hk. ap (λ (l : List ℕ). step_byte l i k) (filled ok a call steps long q e)
+              ∙ step-byte (told_steps (told_plan chip q)) (drop (4 * length (told_steps (told_plan chip q))) steps) i k s.0 s.1 hk,
+        );
   }
 
   finds_plans : FindsPlans a
@@ -61,11 +68,11 @@ module _ {chip : LargeChip} (ok : Judged chip) (a : Snapshot chip) where
       steps-told ok a call steps long ∙ ap (λ (y : Answer). steps_put_by (told_answer chip y) steps) e,
     );
     pages = λ call i page bytes long e. (
-      page_answered ok a call i page long ∙ ap (λ (x : Imaged). image_code_by (image_answer_by x)) e,
+      page_answered ok a call i page long ∙ ap (λ (x : Imaged). code_by (image_answer_by x)) e,
       page_filled ok a call i page long ∙ ap (λ (x : Imaged). image_after_by x page) e,
     );
     no_page = λ call i page x long e. (
-      page_answered ok a call i page long ∙ ap (λ (x : Imaged). image_code_by (image_answer_by x)) e,
+      page_answered ok a call i page long ∙ ap (λ (x : Imaged). code_by (image_answer_by x)) e,
       page_filled ok a call i page long ∙ ap (λ (x : Imaged). image_after_by x page) e,
     );
   }
@@ -75,7 +82,7 @@ module _ {chip : LargeChip} (ok : Judged chip) (few : chip.blocks ≤ 32768) (r 
   table_found p m t room long e =
       let told = table-told ok r room long p m t e in
       let answer = (read_bridged chip.blocks chip.region chip r ok.is-chip).answers room long ∙ ap (told_reading chip) e in
-      let inside = subst (λ (a : TableAnswer). TableInRegion chip a) answer ((blocks_in_region chip.blocks chip.region r.image r.status).tables room) in
+      let inside = subst (λ (a : Result Pair Refusal). TableInRegion chip a) answer ((blocks_in_region chip.blocks chip.region r.image r.status).tables room) in
       let code = code_read ok r room long p m t e in
       let version : version_in (read_told r room) ≡ t.version = ap (λ (x : Table). x.version) told in
       let byte : t.version < 256 = subst (λ (v : ℕ). v < 256) version (omega arith) in

@@ -1,6 +1,7 @@
 -- Demand 3 in C: each event of a driver is an event of a history of demand 3, step by step (`event`): what the driver finds in its buffers is
 -- what that history speaks of (`Found`). So what holds at every moment of a history holds of the driver.
 -- Assumes nothing.
+use Rattle.std.specs.Prelude.{Some}
 use mathlib.Core.List.{List, [], ◌∷◌, map}
 use mathlib.Core.Logic.{◌⊎◌, inl, inr, ⊎_elim, ◌≢◌}
 use mathlib.Core.Option.{some}
@@ -30,7 +31,8 @@ use Rattle.chip.specs.declared.Refusal.{Refusal}
 use Rattle.chip.specs.declared.Refusal.TheVariants.{NoTarget, ZeroFailed}
 use Rattle.images.specs.Made.{image_answer_by, image_after_by}
 use Rattle.packing.specs.Packing.{refusal_code, steps_put}
-use Rattle.reamsickle.specs.LargeBoundary.{plan_code_by, image_code_by}
+use Rattle.reamsickle.specs.Boundary.{code_by}
+use Rattle.reamsickle.specs.LargeBoundary.{plan_code_by}
 use Rattle.claims.specs.Driver.{refusal_in, steps_in, zeroes, driver_step, place_of, StepTouches, plan_told, steps_told, page_told, table_told, StepDone, StepCut, RestKept, DriverHand, nothing, doing, DriverWorld, at, as_told, StepsLeft, DriverEvent, refused as was-refused, update as was-updated, recovery as was-recovered, done as was-done, cut as was-cut, fail as was-failed, give_up as was-given-up, cut_between as was-cut-between, no_step_left as had-no-step, no_plan as had-no-plan, DriverHistory, start as at-start, next as and_then}
 use Rattle.claims.specs.DriverCuts.{region_at, Answers, DriverStart, from_settled, DriverSettles, DriverHarmless, Retires, DriverFails, DriverNext, DriverPromise, Demand3InC}
 use Rattle.claims.proofs.Found.{block_of, seen_step, as_many, step_seen, plan-told, refused_told, plan_answered, count_told, filled, page_answered, page_filled, read_answered, table-told, read_settled}
@@ -89,15 +91,10 @@ module _ {chip : LargeChip} where
   after_step left (x ∷ es) e h = h.some (λ z. omega arith)
 
 -- ---- the first step of a plan
-some_step : (es : List Step) {e : Step} → step_at es 0 ≡ some e → 0 < length es
-unfolding step_at
-some_step [] h = absurd (let z : ◌≡◌ {A = ℕ} 0 1 = cc in omega arith)
-some_step (x ∷ es) h = omega arith
-
-first_told : (chip : LargeChip) (es : List Step) {e : Step} → step_at es 0 ≡ some e → nth_step (map (told_step chip) es) 0 ≡ told_step chip e
+first_told : (chip : LargeChip) (es : List Step) {e : Step} → step_at es 0 ≡ some e → nth_step (map (told_step chip) es) 0 ≡ Some (told_step chip e)
 unfolding step_at nth_step
 first_told chip [] h = absurd (let z : ◌≡◌ {A = ℕ} 0 1 = cc in omega arith)
-first_told chip (x ∷ es) {e} h = let q : x ≡ e = cc in ap (told_step chip) q
+first_told chip (x ∷ es) {e} h = let q : x ≡ e = cc in ap (λ (y : Step). Some (told_step chip y)) q
 
 -- ---- a world that a history from a settled pair leads to
 module _ {chip : LargeChip} where
@@ -132,10 +129,10 @@ module _ {chip : LargeChip} (ok : Judged chip) (few : chip.blocks ≤ 32768) (sa
       let n = (promised s h).next_step in
       let same : plan n.1.made ≡ plan q = sym n.1.by_plan ∙ planned in
       let made : n.1.made ≡ q = cc in
-      let numbered : nth_step (told_steps (told_plan chip q)) i ≡ told_step chip e = subst (λ (x : Plan). nth_step (told_steps (told_plan chip x)) i ≡ told_step chip e) made n.1.by_number in
+      let numbered : nth_step (told_steps (told_plan chip q)) i ≡ Some (told_step chip e) = subst (λ (x : Plan). nth_step (told_steps (told_plan chip x)) i ≡ Some (told_step chip e)) made n.1.by_number in
       record {
         harmless = n.0;
-        told = step_seen (told_steps (told_plan chip q)) room i (omega (arith, as_many chip q)) chip e numbered (block_small r e n.0);
+        told = step_seen (told_steps (told_plan chip q)) room i chip e numbered (block_small r e n.0);
         its_image = n.1.by_image;
         if_it_fails = n.2;
       }
@@ -308,7 +305,7 @@ module _ {chip : LargeChip} (ok : Judged chip) (few : chip.blocks ≤ 32768) (sa
   harmless : (r : Region chip) (a : Snapshot chip) (call : Call) (i : ℕ) (e : Step) → Harmless r e → ImageOf e (asked call a i)
       → DriverHarmless call a i r (seen_step chip e)
   harmless r a call i (erase b) h x = (h.0, rw (place chip b) h.1)
-  harmless r a call i (write b p k t) h x = (h.0, h.1, λ page long. page_answered ok a call i page long ∙ ap (λ (y : Imaged). image_code_by (image_answer_by y)) x)
+  harmless r a call i (write b p k t) h x = (h.0, h.1, λ page long. page_answered ok a call i page long ∙ ap (λ (y : Imaged). code_by (image_answer_by y)) x)
   harmless r a call i (zeros b) h x = h
 
   -- were it to fail
@@ -324,7 +321,7 @@ module _ {chip : LargeChip} (ok : Judged chip) (few : chip.blocks ≤ 32768) (sa
       starts : driver_step (steps_told call a room) 0 ≡ zeroes (chip_block chip b).0
       starts =
           ap (λ (l : List ℕ). driver_step l 0) (filled ok a call room long q e)
-          ∙ step_seen (told_steps (told_plan chip q)) room 0 (omega (arith, as_many chip q, some_step (steps_of (pages_of chip) q) first)) chip (zeros b)
+          ∙ step_seen (told_steps (told_plan chip q)) room 0 chip (zeros b)
           (ap (λ (ss : List ToldStep). nth_step ss 0) (tells_steps chip q) ∙ first_told chip (steps_of (pages_of chip) q) first) small
 
   fails : (r : Region chip) (call : Call) (a : Snapshot chip) (e : Step) → Harmless r e → IfItFails chip e (answer call a) → (room : List ℕ) → length room ≡ 64

@@ -26,7 +26,8 @@ use Rattle.chip.specs.declared.Refusal.{Refusal}
 use Rattle.chip.specs.declared.Refusal.TheVariants.{NoCopy, NotSettled}
 use Rattle.images.specs.Made.{image_answer_by, image_after_by}
 use Rattle.packing.specs.Packing.{refusal_code}
-use Rattle.reamsickle.specs.LargeBoundary.{table_code_by, plan_code_by, image_code_by, table_page_code}
+use Rattle.reamsickle.specs.Boundary.{code_by}
+use Rattle.reamsickle.specs.LargeBoundary.{table_code_by, plan_code_by, table_page_code}
 use Rattle.table.specs.Tables.{told_reading}
 use Rattle.claims.specs.Driver.{refusal_in, plan_told, read_told}
 use Rattle.claims.specs.FirstPair.{FirstPairInC}
@@ -46,7 +47,7 @@ module _ {chip : LargeChip} (ok : Judged chip) where
   unfolding table_page_code table_page_answer table_page_after
   page t any p l room h =
       let e = primary_lent ok t any p l room h in
-      (ap (λ (x : Imaged). image_code_by (image_answer_by x)) e, ap (λ (x : Imaged). image_after_by x room) e)
+      (ap (λ (x : Imaged). code_by (image_answer_by x)) e, ap (λ (x : Imaged). image_after_by x room) e)
 
   module _ (r : Region chip) (steps : List ℕ) (long : length steps ≡ 64) where
     code : (x : Refusal) → answer for_recovery (snapshot r) ≡ refuse x → plan_told for_recovery (snapshot r) steps ≡ refusal_code x

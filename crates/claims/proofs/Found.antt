@@ -1,6 +1,7 @@
 -- What a driver finds in its buffers is what the histories of demand 3 speak of: the parts of an answer, the four bytes of each step, the
 -- page of a step, the table.
 -- Assumes nothing.
+use Rattle.std.specs.Prelude.{Some}
 use mathlib.Core.Bool.{Bool, true, false, cond}
 use mathlib.Core.List.{List, [], ◌∷◌, ◌++◌, append_assoc}
 use mathlib.Core.Logic.{◌≢◌}
@@ -28,7 +29,7 @@ use Rattle.bbt.specs.Regions.{Region, view}
 use Rattle.bbt.specs.Told.{chip_block, told_plan, told_answer, told_step, told_steps, nth_step}
 use Rattle.bbt.specs.declared.Kind.TheVariants.{Mirror}
 use Rattle.bbt.specs.declared.Step.{Step as ToldStep}
-use Rattle.bbt.specs.declared.Step.TheVariants.{Erase, Write, Zero, Past}
+use Rattle.bbt.specs.declared.Step.TheVariants.{Erase, Write, Zero}
 use Rattle.chip.proofs.Telling.{told_apart}
 use Rattle.chip.specs.Large.{bitmap_bytes, pages_of}
 use Rattle.chip.specs.declared.LargeChip.{LargeChip}
@@ -38,7 +39,8 @@ use Rattle.images.specs.Made.{image_answer_by, image_after_by}
 use Rattle.packing.specs.Packing.{refusal_code, step_bytes, plan_bytes, steps_put}
 use Rattle.plan.proofs.Bridge.{bridged}
 use Rattle.reamsickle.proofs.Room.{plan_room}
-use Rattle.reamsickle.specs.LargeBoundary.{table_code_by, table_code, plan_code_by, steps_put_by, plan_code, steps_after, image_code_by, image_code, room_of}
+use Rattle.reamsickle.specs.Boundary.{code_by}
+use Rattle.reamsickle.specs.LargeBoundary.{table_code_by, table_code, plan_code_by, steps_put_by, plan_code, steps_after, image_code, room_of}
 use Rattle.table.proofs.Bridge.{read_bridged}
 use Rattle.table.specs.Tables.{told_reading, room_by}
 use Rattle.claims.specs.Driver.{refusal_in, version_in, steps_in, DriverStep, erases, writes, zeroes, step_byte, step_block, driver_step, plan_told, steps_told, image_told, page_told, read_told, bitmap_told, table_told}
@@ -48,25 +50,32 @@ pub refusal_told : (x : Refusal) → refusal_in (refusal_code x) ≢ 0
 refusal_told x e = omega (arith, told_apart.above x, told_apart.byte x)
 
 -- ---- the four bytes of a step
+-- there is a step at each place of a list
+pub at_place : (ss : List ToldStep) (i : ℕ) → i < length ss → (s : ToldStep) × (nth_step ss i ≡ Some s)
+unfolding nth_step
+at_place [] i h = absurd (omega arith)
+at_place (s ∷ ss) zero h = (s, refl)
+at_place (s ∷ ss) (suc i) h = at_place ss i (omega arith)
+
 four_long : (s : ToldStep) → length (step_bytes s) ≡ 4
 four_long (Erase b) = refl
 four_long (Write b p k) = refl
 four_long (Zero b) = refl
-four_long Past = refl
 
-pub step-byte : (ss : List ToldStep) (rest : List ℕ) (i k : ℕ) → i < length ss → k < 4
-    → step_byte (plan_bytes ss ++ rest) i k ≡ get_or (step_bytes (nth_step ss i)) k 0
+pub step-byte : (ss : List ToldStep) (rest : List ℕ) (i k : ℕ) (e : ToldStep) → nth_step ss i ≡ Some e → k < 4
+    → step_byte (plan_bytes ss ++ rest) i k ≡ get_or (step_bytes e) k 0
 unfolding plan_bytes nth_step
-step-byte [] rest i k h hk = absurd (omega arith)
-step-byte (s ∷ ss) rest zero k h hk =
+step-byte [] rest i k e h hk = absurd (cc)
+step-byte (s ∷ ss) rest zero k e h hk =
     ap (λ (n : ℕ). get_or ((step_bytes s ++ plan_bytes ss) ++ rest) n 0) (omega arith)
     ∙ get_or-append (step_bytes s ++ plan_bytes ss) rest 0 k (omega (arith, length-append (step_bytes s) (plan_bytes ss), four_long s))
     ∙ get_or-append (step_bytes s) (plan_bytes ss) 0 k (omega (arith, four_long s))
-step-byte (s ∷ ss) rest (suc i) k h hk =
+    ∙ ap (λ (x : ToldStep). get_or (step_bytes x) k 0) (let same : s ≡ e = cc in same)
+step-byte (s ∷ ss) rest (suc i) k e h hk =
     ap (λ (l : List ℕ). get_or l (4 * suc i + k) 0) (append_assoc (step_bytes s) (plan_bytes ss) rest)
     ∙ ap (λ (n : ℕ). get_or (step_bytes s ++ (plan_bytes ss ++ rest)) n 0) (omega (arith, four_long s))
     ∙ get_or-append-add (step_bytes s) (plan_bytes ss ++ rest) (4 * i + k) 0
-    ∙ step-byte ss rest i k (omega arith) hk
+    ∙ step-byte ss rest i k e h hk
 
 -- the block of a step
 abbrev pub block_of : Step → ℕ
@@ -80,12 +89,12 @@ seen_step chip (erase b) = erases (chip_block chip b).0
 seen_step chip (write b p k t) = writes (chip_block chip b).0 p
 seen_step chip (zeros b) = zeroes (chip_block chip b).0
 
-module _ (ss : List ToldStep) (room : List ℕ) (i : ℕ) (h : i < length ss) (chip : LargeChip) where
-  byte_told : (e : Step) (k : ℕ) → nth_step ss i ≡ told_step chip e → k < 4 → step_byte (steps_put ss room) i k ≡ get_or (step_bytes (told_step chip e)) k 0
+module _ (ss : List ToldStep) (room : List ℕ) (i : ℕ) (chip : LargeChip) where
+  byte_told : (e : Step) (k : ℕ) → nth_step ss i ≡ Some (told_step chip e) → k < 4 → step_byte (steps_put ss room) i k ≡ get_or (step_bytes (told_step chip e)) k 0
   unfolding steps_put
-  byte_told e k at hk = step-byte ss (drop (4 * length ss) room) i k h hk ∙ ap (λ (s : ToldStep). get_or (step_bytes s) k 0) at
+  byte_told e k at hk = step-byte ss (drop (4 * length ss) room) i k (told_step chip e) at hk
 
-  pub step_block_lem : (e : Step) → nth_step ss i ≡ told_step chip e → (chip_block chip (block_of e)).0 < 65536
+  pub step_block_lem : (e : Step) → nth_step ss i ≡ Some (told_step chip e) → (chip_block chip (block_of e)).0 < 65536
       → step_block (steps_put ss room) i ≡ (chip_block chip (block_of e)).0
   step_block_lem (erase b) at small =
       let one = byte_told (erase b) 1 at (omega arith) in
@@ -100,7 +109,7 @@ module _ (ss : List ToldStep) (room : List ℕ) (i : ℕ) (h : i < length ss) (c
       let two = byte_told (zeros b) 2 at (omega arith) in
       omega arith
 
-  pub step_seen : (e : Step) → nth_step ss i ≡ told_step chip e → (chip_block chip (block_of e)).0 < 65536 → driver_step (steps_put ss room) i ≡ seen_step chip e
+  pub step_seen : (e : Step) → nth_step ss i ≡ Some (told_step chip e) → (chip_block chip (block_of e)).0 < 65536 → driver_step (steps_put ss room) i ≡ seen_step chip e
   unfolding driver_step
   step_seen (erase b) at small = rw (byte_told (erase b) 0 at (omega arith)) (ap erases (step_block_lem (erase b) at small))
   step_seen (write b p k t) at small =
@@ -244,9 +253,9 @@ module _ {chip : LargeChip} (ok : Judged chip) (a : Snapshot chip) where
       filled = steps-told ∙ ap (λ (x : Answer). steps_put_by (told_answer chip x) room) e
 
   -- the page of a step
-  pub page_answered : (call : Call) (i : ℕ) (page : List ℕ) → length page ≡ 2112 → image_told call a i page ≡ image_code_by (image_answer_by (asked call a i))
+  pub page_answered : (call : Call) (i : ℕ) (page : List ℕ) → length page ≡ 2112 → image_told call a i page ≡ code_by (image_answer_by (asked call a i))
   unfolding image_code
-  page_answered call i page h = ap image_code_by ((bridged chip.blocks chip.region chip call a.from.image a.from.status a.failed ok.is-chip).answers i page h)
+  page_answered call i page h = ap code_by ((bridged chip.blocks chip.region chip call a.from.image a.from.status a.failed ok.is-chip).answers i page h)
 
   pub page_filled : (call : Call) (i : ℕ) (page : List ℕ) → length page ≡ 2112 → page_told call a i page ≡ image_after_by (asked call a i) page
   page_filled call i page h = (bridged chip.blocks chip.region chip call a.from.image a.from.status a.failed ok.is-chip).pages i page h

@@ -1,5 +1,6 @@
 -- A spare that is not ours, in C: both entries tell the refusal of the spare (`splits_five`), and a number tells which refusal it is (`told_apart`).
 -- Assumes nothing.
+use Rattle.std.specs.Prelude.{Result, Ok, Err}
 use mathlib.Core.Bool.{Bool, true, false}
 use mathlib.Core.List.{List}
 use mathlib.Core.Path.{◌≡◌, refl, sym, ◌∙◌, ap}
@@ -18,8 +19,6 @@ use Rattle.reamsickle.specs.Boundary.{spare_code_by, spare_code, spare_fields_af
 use Rattle.spare.proofs.WhyNotOurs.{splits_five}
 use Rattle.spare.specs.Reading.{spare_answer}
 use Rattle.spare.specs.WhyNotOurs.{Why}
-use Rattle.spare.specs.declared.SpareAnswer.{SpareAnswer}
-use Rattle.spare.specs.declared.SpareAnswer.TheVariants.{Read, Refused}
 use Rattle.spare.specs.declared.SpareFields.{SpareFields}
 use Rattle.claims.specs.NotOurs.{BothRefuse, ExactlyWhen, NotOursInC}
 
@@ -60,9 +59,9 @@ module _ (bytes spare fields : List ℕ) (lb : length bytes ≡ 512) (lf : lengt
         code : spare_code_by (spare_answer spare) ≡ refusal_code r
         code = rw (eq-eqb (length fields) 11 lf) at e
 
-        go : (a : SpareAnswer) → spare_answer spare ≡ a → Why spare r
-        go (Read f) q = absurd (omega (arith, sym (ap spare_code_by q) ∙ code))
-        go (Refused x) q = (splits_five spare).only r h (q ∙ ap Refused (code_is x r (sym (ap spare_code_by q) ∙ code)))
+        go : (a : Result SpareFields Refusal) → spare_answer spare ≡ a → Why spare r
+        go (Ok f) q = absurd (omega (arith, sym (ap spare_code_by q) ∙ code))
+        go (Err x) q = (splits_five spare).only r h (q ∙ ap Err (code_is x r (sym (ap spare_code_by q) ∙ code)))
 
     page_only : page_code bytes spare fields ≡ refusal_code r → Why spare r
     unfolding page_code page_answer
@@ -71,9 +70,9 @@ module _ (bytes spare fields : List ℕ) (lb : length bytes ≡ 512) (lf : lengt
         code : page_code_by (by_spare bytes spare (spare_answer spare)) ≡ refusal_code r
         code = rw (eq-eqb (length fields) 11 lf, eq-eqb (length bytes) 512 lb) at e
 
-        go : (a : SpareAnswer) → spare_answer spare ≡ a → Why spare r
-        go (Read f) q = absurd (zero_or_six f _ _ r h (rw q at code))
-        go (Refused x) q = (splits_five spare).only r h (q ∙ ap Refused (code_is x r (rw q at code)))
+        go : (a : Result SpareFields Refusal) → spare_answer spare ≡ a → Why spare r
+        go (Ok f) q = absurd (zero_or_six f _ _ r h (rw q at code))
+        go (Err x) q = (splits_five spare).only r h (q ∙ ap Err (code_is x r (rw q at code)))
 
     exactly : ExactlyWhen bytes spare fields (refusal_code r) (Why spare r)
     exactly = record { refused = refused; spare_only = spare_only; page_only = page_only }

@@ -1,28 +1,30 @@
 -- Demand 2 in C: each entry tells what the contracts below it answer, and those read back (`reads_back`).
 -- Assumes nothing.
+use Rattle.std.specs.Prelude.{Result}
 use mathlib.Core.List.{List}
 use mathlib.Core.Path.{◌≡◌, refl, ap, ◌∙◌}
 use Prim.Native.Nat.{ℕ, ◌+◌}
 use borrow.Author.Tests.{eq-eqb}
 use lib.ListN.{length}
 use Rattle.chip.specs.declared.Half.TheVariants.{First, Second}
+use Rattle.chip.specs.declared.Refusal.{Refusal}
 use Rattle.chip.specs.declared.Refusal.TheVariants.{Unrepairable}
 use Rattle.packing.specs.Packing.{refusal_code}
 use Rattle.page.proofs.ReadBack.{reads_back}
 use Rattle.page.specs.Claims.{Page, written as as_written, Flips, none, one, two, with_flips, flip_verdict, flip_repairs, fields_of, flip_answer, flip_data, Reading, ReadsBack}
 use Rattle.page.specs.Pages.{page_repairs}
-use Rattle.page.specs.declared.PageAnswer.{PageAnswer}
-use Rattle.reamsickle.specs.Boundary.{write_code_by, write_code, spare_code, spare_fields_after, page_code_by, page_fields_by, page_code, page_data_after, page_fields_after}
+use Rattle.page.specs.declared.PageFields.{PageFields}
+use Rattle.reamsickle.specs.Boundary.{code_by, write_code, spare_code, spare_fields_after, page_code_by, page_fields_by, page_code, page_data_after, page_fields_after}
 use Rattle.claims.specs.ReadBack.{written_fields, by_flips, PageReads, Demand2InC}
 
 -- what reading a page answers, told in C
-told : (p : Page) (fields : List ℕ) → length fields ≡ 11 → (answer : PageAnswer) (after : List ℕ) → Reading p answer after
+told : (p : Page) (fields : List ℕ) → length fields ≡ 11 → (answer : Result PageFields Refusal) (after : List ℕ) → Reading p answer after
     → PageReads p fields (page_code_by answer) after (page_fields_by answer fields)
 unfolding page_code page_data_after page_fields_after
 told p fields long answer after h = record {
   answered = rw (eq-eqb (length fields) 11 long) (ap page_code_by h.answered);
   left = rw (eq-eqb (length fields) 11 long) h.left;
-  filled = rw (eq-eqb (length fields) 11 long) (ap (λ (a : PageAnswer). page_fields_by a fields) h.answered);
+  filled = rw (eq-eqb (length fields) 11 long) (ap (λ (a : Result PageFields Refusal). page_fields_by a fields) h.answered);
 }
 
 -- the answer by the flipped bits, as C tells it
@@ -58,7 +60,7 @@ module _ (tag path count : ℕ) (fields : List ℕ) where
 pub demand2_in_c : Demand2InC
 unfolding write_code spare_code spare_fields_after
 demand2_in_c bytes tag path count spare fields w ls lf = record {
-  written = ap write_code_by (h.spare.accepted spare ls).0;
+  written = ap code_by (h.spare.accepted spare ls).0;
   spare_answered = rw (eq-eqb (length fields) 11 lf, (h.spare.accepted spare ls).1, h.spare.alone) refl;
   spare_told = rw (eq-eqb (length fields) 11 lf, (h.spare.accepted spare ls).1, h.spare.alone) refl;
   page-told = λ f g rf rg. rw (h.spare.accepted spare ls).1 (page f g (h.reads f g rf rg));

@@ -1,5 +1,6 @@
 -- Read with d blocks fewer, a pair is found by where its copies lie: block p of the region is p − d there, which is the same chip block.
 -- Assumes nothing.
+use Rattle.std.specs.Prelude.{Ok}
 use mathlib.Core.Bool.{Bool, true, false}
 use mathlib.Core.List.{List}
 use mathlib.Core.Path.{◌≡◌, refl, ap₂, sym, ◌∙◌}
@@ -17,7 +18,6 @@ use Rattle.bbt.specs.Regions.{Region, view}
 use Rattle.bbt.specs.Sizes.{narrowed, by_place, found_above}
 use Rattle.bbt.specs.Told.{chip_block}
 use Rattle.chip.specs.Large.{chip_of, bitmap_bytes}
-use Rattle.chip.specs.declared.ChipAnswer.TheVariants.{Chip}
 use Rattle.chip.specs.declared.LargeChip.{LargeChip}
 use Rattle.chip.specs.declared.Refusal.TheVariants.{NoCopy, NotSettled}
 use Rattle.claims.specs.Driver.{read_told, bitmap_told, table_told}
@@ -26,7 +26,7 @@ use Rattle.claims.specs.Sizes.{read_fewer, bitmap_fewer, by_blocks, NarrowedInC,
 use Rattle.claims.proofs.BridgeToC.{bridge_to_c}
 use Rattle.claims.proofs.Found.{code_read, read_settled}
 
-module _ (n size d : ℕ) (chip : LargeChip) (is : chip_of n size ≡ Chip chip) (fewer : chip_of n (size - d) ≡ Chip (narrowed chip d)) (r : Region chip)
+module _ (n size d : ℕ) (chip : LargeChip) (is : chip_of n size ≡ Ok chip) (fewer : chip_of n (size - d) ≡ Ok (narrowed chip d)) (r : Region chip)
     (room : List ℕ) (long : length room ≡ bitmap_bytes chip) where
   ok : Judged chip
   ok = judge n size chip is

@@ -1,10 +1,9 @@
 -- Document 01: "Any other byte may change and no answer does", of the C entries that take a region image: for every N and size of
 -- the region, refused ones too, every answer and every lent byte after the call.
-use Rattle.std.specs.Prelude.{List, ◌≡◌, ℕ}
+use Rattle.std.specs.Prelude.{List, ◌≡◌, ℕ, Ok}
 use Rattle.bbt.specs.Dependence.{Alike}
 use Rattle.bbt.specs.Plans.{Call}
 use Rattle.chip.specs.Large.{chip_of}
-use Rattle.chip.specs.declared.ChipAnswer.TheVariants.{Chip}
 use Rattle.chip.specs.declared.LargeChip.{LargeChip}
 use Rattle.plan.specs.Answers.{plan_answer}
 use Rattle.plan.specs.PageImages.{image_after}
@@ -25,4 +24,4 @@ pub record SameInC (n size : ℕ) (status x y : List ℕ) : Type 0 where
       → image_after n size call x status failed i room ≡ image_after n size call y status failed i room
 
 abbrev pub DependenceInC : Type 0
-DependenceInC = (n size : ℕ) (status x y : List ℕ) → ((chip : LargeChip) → chip_of n size ≡ Chip chip → Alike chip status x y) → SameInC n size status x y
+DependenceInC = (n size : ℕ) (status x y : List ℕ) → ((chip : LargeChip) → chip_of n size ≡ Ok chip → Alike chip status x y) → SameInC n size status x y

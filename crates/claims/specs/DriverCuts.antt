@@ -1,13 +1,12 @@
 -- Demand 3 as a sentence about the bytes of the C entries: a driver that follows the header, from any region that ream_table_read answers,
 -- through any list of plans, steps, cuts and failed steps.
-use Rattle.std.specs.Prelude.{false, List, ◌⊎◌, ◌≡◌, ℕ, ◌+◌, ◌-◌, ◌<◌, ◌≤◌, length}
+use Rattle.std.specs.Prelude.{false, List, ◌⊎◌, ◌≡◌, ℕ, ◌+◌, ◌-◌, ◌<◌, ◌≤◌, length, Ok}
 use Rattle.bbt.specs.Copies.{reads_bad}
 use Rattle.bbt.specs.Histories.{one_table, Snapshot, snapshot, with_failed, Hand, empty, holding, World, world, History}
 use Rattle.bbt.specs.Plans.{Call, for_update, for_recovery}
 use Rattle.bbt.specs.PowerCuts.{NotGoodKept, Outcome, Start}
 use Rattle.bbt.specs.Regions.{Region, view}
 use Rattle.chip.specs.Large.{chip_of, bitmap_bytes, pages_of}
-use Rattle.chip.specs.declared.ChipAnswer.TheVariants.{Chip}
 use Rattle.chip.specs.declared.LargeChip.{LargeChip}
 use Rattle.claims.specs.Driver.{refusal_in, DriverStep, erases, writes, zeroes, driver_step, plan_told, steps_told, image_told, read_told, table_told, place_of, DriverHand, nothing, doing, DriverWorld, at, DriverHistory}
 
@@ -69,7 +68,7 @@ pub record DriverSafe (chip : LargeChip) : Type 0 where
       → Answers (region_at v) x → Answers (region_at u) y → NotGoodKept chip (table_told (region_at v) x) (table_told (region_at u) y)
 
 abbrev pub Demand3InC : Type 0
-Demand3InC = (n size : ℕ) (chip : LargeChip) → chip_of n size ≡ Chip chip → DriverSafe chip
+Demand3InC = (n size : ℕ) (chip : LargeChip) → chip_of n size ≡ Ok chip → DriverSafe chip
 
 -- ---- nothing is left out
 module _ {chip : LargeChip} where
@@ -87,4 +86,4 @@ module _ {chip : LargeChip} where
       DriverStart (at r nothing m) × (d : DriverHand chip) × SameHand d h × DriverHistory (at r nothing m) (at s d l)
 
 abbrev pub NothingLeftOutInC : Type 0
-NothingLeftOutInC = (n size : ℕ) (chip : LargeChip) → chip_of n size ≡ Chip chip → (w v : World chip) → Start w → History w v → DriverReaches w v
+NothingLeftOutInC = (n size : ℕ) (chip : LargeChip) → chip_of n size ≡ Ok chip → (w v : World chip) → Start w → History w v → DriverReaches w v

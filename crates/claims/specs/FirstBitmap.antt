@@ -1,9 +1,8 @@
 -- Document 02, T-02, as a sentence about the bytes of ream_first_bitmap: the entry of block b by bytes 2b and 2b + 1 of the marks, OOB byte 0 of
 -- its first and of its second page; and the marks of first pages alone are refused.
-use Rattle.std.specs.Prelude.{List, ◌≡◌, ℕ, ◌+◌, ◌*◌, ◌/◌, ◌<◌, length, get_or}
+use Rattle.std.specs.Prelude.{List, ◌≡◌, ℕ, ◌+◌, ◌*◌, ◌/◌, ◌<◌, length, get_or, Ok}
 use Rattle.bbt.specs.Entries.{entry_of}
 use Rattle.chip.specs.Large.{chip_of}
-use Rattle.chip.specs.declared.ChipAnswer.TheVariants.{Chip}
 use Rattle.chip.specs.declared.LargeChip.{LargeChip}
 use Rattle.factory.specs.FirstBitmap.{first_after}
 use Rattle.reamsickle.specs.LargeBoundary.{first_code}
@@ -25,5 +24,5 @@ module _ (n size : ℕ) (marks room : List ℕ) where
 -- of any chip
 abbrev pub FirstBitmapInC : Type 0
 FirstBitmapInC =
-    (n size : ℕ) (chip : LargeChip) → chip_of n size ≡ Chip chip → (marks room : List ℕ)
+    (n size : ℕ) (chip : LargeChip) → chip_of n size ≡ Ok chip → (marks room : List ℕ)
     → (length marks ≡ 2 * n → length room ≡ n / 4 → FirstEntries n size marks room) × (length marks ≡ n → TooFew n size marks room)

@@ -1,6 +1,6 @@
 -- A chip's first pair of tables through the C entries: the answers and bytes that a driver goes by in the header's recipe are those that `FirstPair`
 -- (crate `bringup`) speaks of.
-use Rattle.std.specs.Prelude.{List, ◌≡◌, ℕ, ◌<◌, length}
+use Rattle.std.specs.Prelude.{List, ◌≡◌, ℕ, ◌<◌, length, Ok}
 use Rattle.bbt.specs.Copies.{Table}
 use Rattle.bbt.specs.Histories.{snapshot, answer}
 use Rattle.bbt.specs.Images.{page_image}
@@ -12,7 +12,6 @@ use Rattle.bbt.specs.declared.Kind.TheVariants.{Primary}
 use Rattle.bringup.specs.FirstPair.{NoTables, OneCopy}
 use Rattle.bringup.specs.TablePages.{table_page_after}
 use Rattle.chip.specs.Large.{chip_of, bitmap_bytes, pages_of}
-use Rattle.chip.specs.declared.ChipAnswer.TheVariants.{Chip}
 use Rattle.chip.specs.declared.LargeChip.{LargeChip}
 use Rattle.chip.specs.declared.Refusal.TheVariants.{NoCopy}
 use Rattle.reamsickle.specs.LargeBoundary.{table_page_code}
@@ -33,4 +32,4 @@ pub record FirstTablesInC (chip : LargeChip) : Type 0 where
   pub one_copy : (r : Region chip) (k : Kind) (b : ℕ) (t : Table) (room : List ℕ) → length room ≡ bitmap_bytes chip → OneCopy r k b t → read_told r room ≡ 10
 
 abbrev pub FirstPairInC : Type 0
-FirstPairInC = (n size : ℕ) (chip : LargeChip) → chip_of n size ≡ Chip chip → FirstTablesInC chip
+FirstPairInC = (n size : ℕ) (chip : LargeChip) → chip_of n size ≡ Ok chip → FirstTablesInC chip

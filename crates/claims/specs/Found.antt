@@ -1,14 +1,14 @@
 -- The bridge to C: what a driver that follows the header finds in its buffers is what the events of a history speak of. On a region of the
 -- chip, with rooms of the lengths that the header names.
-use Rattle.std.specs.Prelude.{List, ◌≡◌, ℕ, ◌<◌, length, get_or}
+use Rattle.std.specs.Prelude.{List, ◌≡◌, ℕ, ◌<◌, length, get_or, Some, Ok}
 use Rattle.bbt.specs.Copies.{Table}
 use Rattle.bbt.specs.Histories.{Snapshot, answer, asked}
 use Rattle.bbt.specs.Images.{no_image, page-image}
 use Rattle.bbt.specs.Plans.{Plan, steps_of, plan_version, refuse, plan, Call, refused, holds, reading}
 use Rattle.bbt.specs.Regions.{Region, view}
 use Rattle.bbt.specs.Told.{chip_block, told_plan, told_steps, nth_step}
+use Rattle.bbt.specs.declared.Step.{Step}
 use Rattle.chip.specs.Large.{chip_of, bitmap_bytes, pages_of}
-use Rattle.chip.specs.declared.ChipAnswer.TheVariants.{Chip}
 use Rattle.chip.specs.declared.LargeChip.{LargeChip}
 use Rattle.chip.specs.declared.Refusal.{Refusal}
 use Rattle.packing.specs.Packing.{refusal_code, step_bytes}
@@ -21,8 +21,9 @@ module _ {chip : LargeChip} (a : Snapshot chip) where
     pub answered : refusal_in (plan_told call a steps) ≡ 0
     pub version : version_in (plan_told call a steps) ≡ plan_version q
     pub count : steps_in (plan_told call a steps) ≡ length (steps_of (pages_of chip) q)
-    pub each : (i k : ℕ) → i < length (steps_of (pages_of chip) q) → k < 4
-        → step_byte (steps_told call a steps) i k ≡ get_or (step_bytes (nth_step (told_steps (told_plan chip q)) i)) k 0
+    pub each : (i : ℕ) → i < length (steps_of (pages_of chip) q)
+        → (s : Step) × (nth_step (told_steps (told_plan chip q)) i ≡ Some s)
+        × ((k : ℕ) → k < 4 → step_byte (steps_told call a steps) i k ≡ get_or (step_bytes s) k 0)
 
   pub record FindsPlans : Type 0 where
     -- ream_update_plan, ream_recovery_plan: the history's plan, or its refusal alone
@@ -51,4 +52,4 @@ module _ {chip : LargeChip} (r : Region chip) where
         → (read_told r room ≡ refusal_code x) × (bitmap_told r room ≡ room)
 
 abbrev pub BridgeToC : Type 0
-BridgeToC = (n size : ℕ) (chip : LargeChip) → chip_of n size ≡ Chip chip → ((a : Snapshot chip) → FindsPlans a) × ((r : Region chip) → FindsTables r)
+BridgeToC = (n size : ℕ) (chip : LargeChip) → chip_of n size ≡ Ok chip → ((a : Snapshot chip) → FindsPlans a) × ((r : Region chip) → FindsTables r)

@@ -1,11 +1,10 @@
 -- Document 02: "a table lying below the stated region isn't found", of ream_table_read. One chip, read with its region and then with d blocks
 -- fewer, for which its last blocks are lent: where the first is answered, the second gives the same answer and bitmap if both copies lie
 -- among the last blocks, refusal 10 if one does, and 7 if none does.
-use Rattle.std.specs.Prelude.{List, ◌≡◌, ℕ, ◌-◌, length}
+use Rattle.std.specs.Prelude.{List, ◌≡◌, ℕ, ◌-◌, length, Ok}
 use Rattle.bbt.specs.Regions.{Region}
 use Rattle.bbt.specs.Sizes.{narrowed, last_image, last_status, by_place}
 use Rattle.chip.specs.Large.{chip_of, bitmap_bytes}
-use Rattle.chip.specs.declared.ChipAnswer.TheVariants.{Chip}
 use Rattle.chip.specs.declared.LargeChip.{LargeChip}
 use Rattle.table.specs.Tables.{table_after}
 use Rattle.reamsickle.specs.LargeBoundary.{table_code}
@@ -30,5 +29,5 @@ module _ {chip : LargeChip} (d : ℕ) (r : Region chip) (room : List ℕ) where
 -- for every N and both sizes that the entry takes with it
 abbrev pub BelowNotFoundInC : Type 0
 BelowNotFoundInC =
-    (n size d : ℕ) (chip : LargeChip) → chip_of n size ≡ Chip chip → chip_of n (size - d) ≡ Chip (narrowed chip d) → (r : Region chip) (room : List ℕ)
+    (n size d : ℕ) (chip : LargeChip) → chip_of n size ≡ Ok chip → chip_of n (size - d) ≡ Ok (narrowed chip d) → (r : Region chip) (room : List ℕ)
     → length room ≡ bitmap_bytes chip → refusal_in (read_told r room) ≡ 0 → NarrowedInC d r room

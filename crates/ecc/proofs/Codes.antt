@@ -83,6 +83,10 @@ module _ (l : List ℕ) where
             let e : 4 + j / 2 ≡ (8 + j) / 2 = omega arith in
             bit_shift 4 (j / 2) (line_sum l) ∙ line_bit (4 + j / 2) (omega arith) ∙ ap (λ (k : ℕ). parity (λ x y. bit k x) 0 l) e
 
+-- of a run, from the sums of the whole
+pub code_run : (run : List ℕ) → code_from_sums (line_sum run) (byte_sum run) ≡ code_of run
+code_run run = code_sums run (byte_sum run) (λ g. sum_parity g 0 run)
+
 -- two folds of a half leave 64 bytes, and the two top bits of the line sum
 pub code_folds : (half : List ℕ) → length half ≡ 256
     → code_from_sums

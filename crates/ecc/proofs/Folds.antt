@@ -3,15 +3,16 @@
 -- Assumes nothing.
 use mathlib.Core.Path.{◌≡◌, ◌∙◌, ap, ap₂, sym}
 use mathlib.Core.Bool.{Bool, true, false, cond}
-use mathlib.Core.List.{List}
+use mathlib.Core.List.{List, [], ◌∷◌, ◌++◌}
 use Prim.Native.Nat.{ℕ, suc, ◌+◌, ◌*◌, ◌%◌, ◌<◌, ◌≤◌, ◌^◌}
 use native.Mathlib.Nat.{zero-add, add-div_left, add-mod_left, div-eq_of_lt, one-mul, pow-suc}
-use native.Mathlib.Numerals.{add-one}
 use native.Mathlib.Omega.{arith}
 use lib.Bits.{bit_xor}
 use lib.Dec.{eqb}
-use lib.ListN.{length, get_or, set, take, drop, length-take, length-drop, take-append-drop}
-use lib.Seq.{take_all, take-suc, take-suc-set, get_or-take, get_or-drop}
+use lib.ListN.{length, get_or, take, drop, length-take, length-drop, take-append-drop}
+use lib.Seq.{get_or-take, get_or-drop}
+use Rattle.std.proofs.lemmas.Grind.{common_steps}
+use Rattle.std.proofs.lemmas.List.{take_more}
 use lib.Pow.{pow_mono, pow_pos}
 use Rattle.bits.specs.Bits.{◌⊕◌, bit, number, parity_of}
 use Rattle.bits.proofs.Bit.{bit_above, bit_mod, number_ext, number_lt, number_short}
@@ -19,7 +20,7 @@ use Rattle.bits.proofs.Bytes.{length_xor, get_d_xor}
 use Rattle.ecc.specs.Half.{parity}
 use Rattle.ecc.specs.Sums.{line_sum, byte_sum, fold_at, parity_bit}
 use Rattle.ecc.proofs.Runs.{run_ext, run_none, run_xor, run_append}
-use Rattle.ecc.proofs.Sums.{sum_parity}
+use Rattle.ecc.proofs.Sums.{sum_none, sum_more, sum_parity}
 
 module _ (n : ℕ) (l : List ℕ) (e : length l ≡ n + n) where
   lower : length (take n l) ≡ n
@@ -51,24 +52,20 @@ module _ (n : ℕ) (l : List ℕ) (e : length l ≡ n + n) where
       ∙ ap₂ ◌⊕◌ (run_ext g (λ x y. false) 0 0 (take n l) (λ i b u. rw zero-add (none i b (omega (arith, lower)))) ∙ run_none 0 (take n l))
       (run_ext g (λ x y. true) n 0 (drop n l) (λ i b u. every i b (omega (arith, upper))) ∙ sym (sum_parity (λ b. true) 0 (drop n l)))
 
-  -- ---- a loop's turn: the fold's byte i is stored; and its end
-  pub fold_turn : (to : List ℕ) (i : ℕ) → i < n → length to ≡ n → take i to ≡ take i (fold_at n l)
-      → take (i + 1) (set to i (bit_xor (get_or l i 0) (get_or l (n + i) 0))) ≡ take (i + 1) (fold_at n l)
-  fold_turn to i h s t =
-      let u : i < length to = omega arith in
-      let v : i < length (fold_at n l) = omega (arith, length_fold) in
+  -- one byte more, of the fold and of the upper part
+  pub fold_more : (i : ℕ) → i < n → take (i + 1) (fold_at n l) ≡ take i (fold_at n l) ++ (bit_xor (get_or l i 0) (get_or l (n + i) 0) ∷ [])
+  fold_more i h =
       rw (
-        add-one,
-        take-suc-set to i,
-        take-suc (fold_at n l) i 0,
-        t,
+        take_more (fold_at n l) i 0 (omega (arith, length_fold)),
         get_d_xor (take n l) (drop n l) i (lower ∙ sym upper),
         get_or-take n l i 0,
         get_or-drop n l i 0,
       )
 
-  pub fold_end : (to : List ℕ) (i : ℕ) → n ≤ i → length to ≡ n → take i to ≡ take i (fold_at n l) → to ≡ fold_at n l
-  fold_end to i h s t = sym (take_all i to (omega arith)) ∙ t ∙ take_all i (fold_at n l) (omega (arith, length_fold))
+  pub upper_more : (i : ℕ) → i < n → byte_sum (take (i + 1) (drop n l)) ≡ bit_xor (byte_sum (take i (drop n l))) (get_or l (n + i) 0)
+  upper_more i h = rw (sum_more (drop n l) i (omega (arith, upper)), get_or-drop n l i 0)
+
+pub ruleset folding = (sum_none, upper_more, fold_more, length_fold, common_steps)
 
 -- ---- the line sum of a run of 2 ^ m bytes has m bits
 line_short : (m : ℕ) (l : List ℕ) → m ≤ 8 → length l ≤ 2 ^ m → line_sum l ≡ number m (λ k. parity (λ x y. bit k x) 0 l)
@@ -78,8 +75,11 @@ line_short m l h e =
     let w : 2 ^ m ≤ 2 ^ k = pow_mono u in
     run_ext (λ x y. bit k x) (λ x y. false) 0 0 l (λ i b v. bit_above k (0 + i) (omega arith)) ∙ run_none 0 l)
 
-pub line_lt : (m : ℕ) (l : List ℕ) → m ≤ 8 → length l ≤ 2 ^ m → line_sum l < 2 ^ m
+line_lt : (m : ℕ) (l : List ℕ) → m ≤ 8 → length l ≤ 2 ^ m → line_sum l < 2 ^ m
 line_lt m l h e = rw (line_short m l h e) (number_lt m (λ k. parity (λ x y. bit k x) 0 l))
+
+pub quarter_lt : (l : List ℕ) → length l ≤ 64 → line_sum l < 64
+quarter_lt l e = line_lt 6 l (omega arith) e
 
 once : (t : Bool) (n : ℕ) → cond t n 0 ≡ cond t 1 0 * n
 once true n = sym (one-mul n)

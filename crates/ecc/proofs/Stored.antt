@@ -1,6 +1,6 @@
 -- Laws of `stored_bit`, byte by byte: three bytes as 22 bits, of a code and of a difference.
 -- Assumes nothing.
-use mathlib.Core.Path.{◌≡◌, refl, ◌∙◌, ap, ap₂}
+use mathlib.Core.Path.{◌≡◌, refl, ◌∙◌, ap, ap₂, fun_ext}
 use mathlib.Core.Bool.{Bool, true, false, not, cond, ◌||◌}
 use mathlib.Core.List.{List}
 use Prim.Native.Nat.{ℕ, ◌+◌, ◌-◌, ◌<◌, ◌≤◌}
@@ -12,6 +12,7 @@ use Rattle.bits.specs.Bits.{◌⊕◌, bit}
 use Rattle.bits.proofs.Bit.{bit-xor, bit_number}
 use Rattle.ecc.specs.declared.Code.{Code}
 use Rattle.ecc.specs.Half.{code_bit, code_from, stored_bit, difference}
+use Rattle.ecc.specs.Verdicts.{verdict}
 
 -- two codes XORed, byte by byte
 abbrev pub xor_code : Code → Code → Code
@@ -28,6 +29,9 @@ stored_xor s c j = go (ltb j 8) (ltb j 16)
     go true u = bit-xor j s.one c.one
     go false true = bit-xor (j - 8) s.two c.two
     go false false = bit-xor (j - 14) s.three c.three
+
+pub verdict_xor : (s c : Code) → verdict (stored_bit (xor_code s c)) ≡ verdict (difference s c)
+verdict_xor s c = ap verdict (fun_ext (stored_xor s c))
 
 -- a run's stored bytes hold its code bits inverted
 pub stored-code : (a : ℕ) (l : List ℕ) (j : ℕ) → j < 22 → stored_bit (code_from a l) j ≡ not (code_bit a l j)

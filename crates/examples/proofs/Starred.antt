@@ -1,5 +1,6 @@
 -- The starred examples hold: antt computes each. The bytes of a path or a count are those of its protected word.
 -- Assumes nothing.
+use Rattle.std.specs.Prelude.{None}
 use mathlib.Core.List.{List}
 use mathlib.Core.Path.{◌≡◌, refl}
 use Prim.Native.Nat.{ℕ}
@@ -22,7 +23,6 @@ use Rattle.examples.specs.Starred.{Holds, path, count, no_tag, All, maps, sizes,
 use Rattle.spare.specs.Reading.{spare_answer}
 use Rattle.spare.specs.Tags.{tags, nearest}
 use Rattle.spare.specs.Writing.{spare_of, magic_and_count}
-use Rattle.spare.specs.declared.NearestTag.TheVariants.{Missing}
 use Rattle.table.specs.Tables.{table_answer}
 use Rattle.reamsickle.specs.Boundary.{spare_code}
 use Rattle.reamsickle.specs.LargeBoundary.{table_code}
@@ -37,7 +37,7 @@ count-bytes : (c : ℕ) (bytes : List ℕ) → word_bytes (encoded (magic_and_co
 unfolding spare_of
 count-bytes c bytes e page t p = e
 
-no_tag_refused : (b : ℕ) → nearest tags b ≡ Missing → Holds (no_tag b 4)
+no_tag_refused : (b : ℕ) → nearest tags b ≡ None → Holds (no_tag b 4)
 unfolding spare_code spare_answer
 no_tag_refused b e s fields long lf good at =
     rw (eq-eqb (length fields) 11 lf, eq-eqb (length s) 16 long, good, at, e) refl

@@ -1,6 +1,6 @@
 -- Document 01, "Examples by number": those with a star, as one statement over one table; pairs that a region of one size holds and of another
 -- does not; and boot blocks with their map.
-use Rattle.std.specs.Prelude.{cond, List, [], ◌∷◌, ◌++◌, ◌≡◌, ℕ, zero, suc, ◌+◌, ◌*◌, ◌-◌, eqb, ℤ, pos, length, get_or, replicate, set, take}
+use Rattle.std.specs.Prelude.{cond, List, [], ◌∷◌, ◌++◌, ◌≡◌, ℕ, zero, suc, ◌+◌, ◌*◌, ◌-◌, eqb, ℤ, pos, length, get_or, replicate, set, take, Some, Ok}
 use Rattle.bbt.specs.Copies.{Table}
 use Rattle.bbt.specs.Entries.{entry_of}
 use Rattle.bbt.specs.Images.{page_image}
@@ -15,14 +15,11 @@ use Rattle.boot.specs.declared.Listing.{Listing}
 use Rattle.boot.specs.declared.Listing.TheVariants.{ToMap, ToErase}
 use Rattle.chip.specs.Boot.{path_of, boot_of}
 use Rattle.chip.specs.declared.LargeChip.{LargeChip}
-use Rattle.chip.specs.declared.PathAnswer.TheVariants.{Path}
 use Rattle.chip.specs.declared.Refusal.TheVariants.{Opposite}
 use Rattle.ecc.specs.Half.{code_of}
 use Rattle.spare.specs.Tags.{tags, nearest}
 use Rattle.spare.specs.Writing.{spare_of}
 use Rattle.spare.specs.Status.{status_of}
-use Rattle.spare.specs.declared.NearestTag.TheVariants.{Found}
-use Rattle.spare.specs.declared.Status.TheVariants.{Good}
 use Rattle.reamsickle.specs.Boundary.{code_bytes, spare_code}
 use Rattle.reamsickle.specs.LargeBoundary.{table_code}
 
@@ -85,11 +82,11 @@ list_written l ps = list_by (map_of (counting ps) (length ps)) (list_of l (count
 -- an example holds; of a path or a count whatever else is written with it, of a tag that is none whatever else a spare of a good block holds, of two versions whatever the bitmaps and the blocks
 abbrev pub Holds : Example → Type 0
 Holds (half bytes code) = code_bytes (code_of bytes) ≡ code
-Holds (boot number generation p) = path_of number generation ≡ Path p
+Holds (boot number generation p) = path_of number generation ≡ Ok p
 Holds (path p bytes) = (page : List ℕ) (t c : ℕ) → take 4 (spare_of page t p c) ≡ bytes
 Holds (count c bytes) = (page : List ℕ) (t p : ℕ) → count_bytes (spare_of page t p c) ≡ bytes
-Holds (tag b t) = nearest tags b ≡ Found t
-Holds (no_tag b refusal) = (s fields : List ℕ) → length s ≡ 16 → length fields ≡ 11 → status_of (get_or s 5 0) ≡ Good → get_or s 4 0 ≡ b → spare_code s fields ≡ refusal
+Holds (tag b t) = nearest tags b ≡ Some t
+Holds (no_tag b refusal) = (s fields : List ℕ) → length s ≡ 16 → length fields ≡ 11 → status_of (get_or s 5 0) ≡ Ok tt → get_or s 4 0 ≡ b → spare_code s fields ≡ refusal
 Holds (entries byte es) = four_entries (byte ∷ []) ≡ es
 Holds (versions p m d) = difference p m ≡ d
 Holds (opposite v w) = (chip : LargeChip) (R : View) (x y : List ℕ) (p m : ℕ) → recover_case chip R (compared (versioned v x) (versioned w y) p m) ≡ refuse Opposite

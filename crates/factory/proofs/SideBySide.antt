@@ -3,9 +3,9 @@
 use mathlib.Core.Bool.{Bool, true, false, cond, ◌&&◌, ◌||◌}
 use mathlib.Core.List.{List, [], ◌∷◌}
 use mathlib.Core.Path.{◌≡◌, refl, ◌∙◌}
-use Prim.Native.Nat.{ℕ, zero, suc, ◌+◌, ◌*◌, ◌/◌, ◌%◌, ◌≤◌, ◌<◌}
+use Prim.Native.Nat.{ℕ, zero, suc, ◌+◌, ◌*◌, ◌/◌, ◌%◌}
 use native.Mathlib.Omega.{arith}
-use lib.Bits.{bit_and, bit_or, and_le_r}
+use lib.Bits.{bit_and, bit_or}
 use lib.Dec.{T, eqb, eqb→eq}
 use lib.ListN.{length}
 use Rattle.bits.proofs.Computed.{left, right}
@@ -14,18 +14,10 @@ use Rattle.factory.specs.Marks.{lowest_first, flag}
 
 -- ---- a flag for each byte
 
--- the number that has c in each byte of a list's
-abbrev pub each : ℕ → List ℕ → ℕ
-each c [] = 0
-each c (a ∷ l) = each c l * 256 + c
-
-abbrev pub flags : List ℕ → List ℕ
-flags [] = []
-flags (a ∷ l) = flag a ∷ flags l
-
-abbrev pub Bytes : List ℕ → Type 0
-Bytes [] = Unit {0}
-Bytes (a ∷ l) = (a < 256) × Bytes l
+-- the number of n bytes that has c in each
+abbrev pub each : ℕ → ℕ → ℕ
+each c zero = 0
+each c (suc n) = each c n * 256 + c
 
 -- the code's step, for a byte or for many: bit 7 of the sum is set where a low bit of the byte is, and of the OR, where any bit of it is
 abbrev pub judged : ℕ → ℕ → ℕ → ℕ
@@ -56,17 +48,14 @@ entries (p ∷ []) = 0
 entries (p ∷ q ∷ l) = cond (p || q) 0 3 + 4 * entries l
 
 -- the code's steps: a 1 for each block with both flags, 16 bits apart; 11 for each 1, two and two side by side; then all four
-abbrev good : ℕ → ℕ
+abbrev pub good : ℕ → ℕ
 good n = bit_and (bit_and n (n / 256)) 281479271743489
 
-abbrev paired : ℕ → ℕ
+abbrev pub paired : ℕ → ℕ
 paired n = bit_or (3 * good n) (3 * good n / 16384)
 
-abbrev gathered : ℕ → ℕ
+abbrev pub gathered : ℕ → ℕ
 gathered n = bit_or (paired n) (paired n / 268435456) % 256
-
-pub good_small : (n : ℕ) → good n ≤ 281479271743489
-good_small n = and_le_r (bit_and n (n / 256)) 281479271743489
 
 pub of_flags : (a b c d e f g h : ℕ) → gathered (lowest_first (flag a ∷ flag b ∷ flag c ∷ flag d ∷ flag e ∷ flag f ∷ flag g ∷ flag h ∷ []))
     ≡ entries_byte (mark_entry a b) (mark_entry c d) (mark_entry e f) (mark_entry g h)

@@ -9,7 +9,7 @@ ghost use Rattle.hamming.specs.Word.{check_bits, encoded, data_bit_of, is_repair
 use chip::SmallChip;
 
 // What was repaired in a word.
-#[derive(Clone, Copy)]
+#[derive(Clone, Copy, PartialEq, Eq)]
 pub enum Repair {
     Clean,
     CheckBit,
@@ -28,11 +28,7 @@ impl Repair {
     pub fn is_repair(self) -> bool
         ensures { result ≡ is_repair self }
     {
-        match self {
-            Repair::Clean => false,
-            Repair::CheckBit => true,
-            Repair::DataBit => true,
-        }
+        self != Repair::Clean
     }
 }
 
@@ -40,7 +36,7 @@ impl Repair {
 fn odd(x: u32) -> u32
     ensures { (result ≡ ones x % 2) × (result < 2) }
 {
-    u32::count_ones(x) % 2
+    x.count_ones() % 2
 }
 
 // The five check bits of 26 data bits: each mask has the data bits whose number has the check bit's bit set.
@@ -55,6 +51,7 @@ fn check_bits(bits: u32) -> u32
 }
 
 // The word written for 26 data bits, of which the low 26 of `bits` are taken.
+#[tactic(auto, unfolding(crate::specs::Word::encoded))]
 pub fn encode(bits: u32) -> u32
     ensures { result ≡ encoded bits }
 {
@@ -62,6 +59,7 @@ pub fn encode(bits: u32) -> u32
 }
 
 // The data bit that has the number n, which is not a power of two.
+#[tactic(auto, using(crate::proofs::Numbers::placing))]
 fn data_bit(n: u32) -> u32
     requires { (2 < n) × (n < 32) × (ones n ≡ 1 → ⊥) }
     ensures { (result ≡ data_bit_of n) × (result < 26) }
@@ -79,6 +77,7 @@ fn data_bit(n: u32) -> u32
 }
 
 // Reads a word. Every word has a reading; bit 5 is ignored.
+#[tactic(auto, using(crate::proofs::Numbers::naming), unfolding(crate::specs::Word::decoded, crate::specs::Word::decoded_by, crate::specs::Word::named))]
 pub fn decode(word: u32) -> Decoded
     ensures { result ≡ decoded word }
 {
@@ -86,18 +85,18 @@ pub fn decode(word: u32) -> Decoded
     let named = check_bits(bits) ^ (word % 32);
     if named == 0 {
         return Decoded {
-            bits: bits,
+            bits,
             repair: Repair::Clean,
         };
     }
-    if u32::count_ones(named) == 1 {
+    if named.count_ones() == 1 {
         return Decoded {
-            bits: bits,
+            bits,
             repair: Repair::CheckBit,
         };
     }
     Decoded {
-        bits: bits ^ (1u32 << data_bit(named)),
+        bits: bits ^ (1 << data_bit(named)),
         repair: Repair::DataBit,
     }
 }

@@ -1,6 +1,7 @@
 -- The extent of N and the region's size tells whether they are refused: P is 1 at least. Bytes that are given lie in the image, so there are
 -- 64, and a refusal's number is not 0.
 -- Assumes nothing.
+use Rattle.std.specs.Prelude.{⊤, Result, Ok, Err}
 use mathlib.Core.Bool.{Bool, true, false, cond, ◌&&◌}
 use mathlib.Core.List.{List}
 use mathlib.Core.Path.{◌≡◌, refl, ap}
@@ -17,10 +18,9 @@ use Rattle.chip.proofs.Telling.{told_apart}
 use Rattle.chip.specs.Large.{is_blocks, is_region, chip_of, pages_of}
 use Rattle.chip.specs.Refusals.{refusal_number}
 use Rattle.chip.specs.declared.LargeChip.{LargeChip}
+use Rattle.chip.specs.declared.Refusal.{Refusal}
 use Rattle.chip.specs.declared.Refusal.TheVariants.{Range}
 use Rattle.oob.specs.declared.Extent.{Extent}
-use Rattle.oob.specs.declared.OobAnswer.{OobAnswer}
-use Rattle.oob.specs.declared.OobAnswer.TheVariants.{Given, Refused}
 use Rattle.oob.specs.Oob.{extent_of, oob_answer, JudgesChip, oob_number, oob_bytes, OobByNumber}
 
 pub judges_chip : (n size lent block page : ℕ) → JudgesChip n size lent block page
@@ -35,15 +35,15 @@ judges_chip n size lent block page = go (is_blocks n && is_region n size) refl
     go true e = let some = pages_pos n size chip (rw e) in rw (e, ne_eqb (pages_of chip) 0 (λ z. omega arith))
 
 -- a page that is given lies in the image
-pub given_inside : (e : Extent) (lent block page : ℕ) → oob_answer e lent block page ≡ Given → (block * e.pages + page + 1) * 2112 ≤ lent
+pub given_inside : (e : Extent) (lent block page : ℕ) → oob_answer e lent block page ≡ Ok tt → (block * e.pages + page + 1) * 2112 ≤ lent
 unfolding oob_answer
 given_inside e lent block page given = go (eqb e.pages 0) (eqb lent (e.region * e.pages * 2112)) refl (ltb block e.region && ltb page e.pages) refl given
   where
     go : (none l : Bool) → eqb lent (e.region * e.pages * 2112) ≡ l → (s : Bool) → (ltb block e.region && ltb page e.pages) ≡ s
-        → cond none (Refused Range) (judged Refused l s Given) ≡ Given → (block * e.pages + page + 1) * 2112 ≤ lent
-    go true l a s b x = absurd (let z : ◌≡◌ {A = ℕ} 0 1 = cc in omega arith)
-    go false false a s b x = absurd (let z : ◌≡◌ {A = ℕ} 0 1 = cc in omega arith)
-    go false true a false b x = absurd (let z : ◌≡◌ {A = ℕ} 0 1 = cc in omega arith)
+        → cond none (Err Range) (judged Err l s (Ok (tt {0}))) ≡ Ok (tt {0}) → (block * e.pages + page + 1) * 2112 ≤ lent
+    go true l a s b x = absurd (cc)
+    go false false a s b x = absurd (cc)
+    go false true a false b x = absurd (cc)
     go false true a true b x =
         let whole = eqb-true lent (e.region * e.pages * 2112) a in
         let hb = ltb-true block e.region (both_left (ltb block e.region) (ltb page e.pages) b) in
@@ -55,11 +55,11 @@ pub oob_by_number : (e : Extent) (image : List ℕ) (block page : ℕ) → OobBy
 unfolding oob_bytes
 oob_by_number e image block page = go (oob_answer e (length image) block page) refl
   where
-    go : (a : OobAnswer) → oob_answer e (length image) block page ≡ a → OobByNumber e image block page
-    go Given a =
+    go : (a : Result ⊤ Refusal) → oob_answer e (length image) block page ≡ a → OobByNumber e image block page
+    go (Ok given) a =
         let inside = given_inside e (length image) block page a in
         record { given = λ z. rw a (simp (length-take, length-drop) (omega arith)); refused = λ z. absurd (z (rw a)) }
-    go (Refused r) a =
+    go (Err r) a =
         let above = told_apart.above r in
         let number : oob_number (oob_answer e (length image) block page) ≡ refusal_number r = ap oob_number a in
         record { given = λ z. absurd (omega (arith, z)); refused = λ z. rw a }

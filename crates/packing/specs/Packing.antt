@@ -3,7 +3,7 @@ use Rattle.std.specs.Prelude.{cond, List, [], ◌∷◌, ◌++◌, ℕ, ◌+◌,
 use Rattle.bbt.specs.Told.{told_steps}
 use Rattle.bbt.specs.declared.Plan.{Plan}
 use Rattle.bbt.specs.declared.Step.{Step}
-use Rattle.bbt.specs.declared.Step.TheVariants.{Erase, Write, Zero, Past}
+use Rattle.bbt.specs.declared.Step.TheVariants.{Erase, Write, Zero}
 use Rattle.bits.specs.Bytes.{byte_of}
 use Rattle.chip.specs.Refusals.{refusal_number, refusal_detail}
 use Rattle.chip.specs.declared.Refusal.{Refusal}
@@ -44,7 +44,7 @@ place_bytes NotRepairable = 0 ∷ 0 ∷ 0 ∷ []
 unfoldable pub page_bytes : PageFields → List ℕ
 page_bytes f = field_bytes f.spare (page_repairs f) ++ (place_bytes f.first ++ place_bytes f.second)
 
--- a step in four bytes: kind, chip block big endian, page. No plan holds a step past its end
+-- a step in four bytes: kind, chip block big endian, page
 abbrev pub four_bytes : ℕ → ℕ → ℕ → List ℕ
 four_bytes kind block page = kind ∷ block / 256 % 256 ∷ block % 256 ∷ page ∷ []
 
@@ -52,7 +52,6 @@ abbrev pub step_bytes : Step → List ℕ
 step_bytes (Erase b) = four_bytes 0 b.0 0
 step_bytes (Write b p k) = four_bytes 1 b.0 p
 step_bytes (Zero b) = four_bytes 2 b.0 0
-step_bytes Past = four_bytes 0 0 0
 
 unfoldable pub plan_bytes : List Step → List ℕ
 plan_bytes [] = []

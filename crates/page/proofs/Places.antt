@@ -6,10 +6,12 @@ use mathlib.Core.Path.{◌≡◌, refl, sym, ap, ◌∙◌, subst}
 use Prim.Native.Nat.{ℕ}
 use native.Mathlib.Omega.{arith}
 use borrow.Author.Tests.{eqb-true, lt-ltb}
+use Rattle.std.specs.Prelude.{Result, Ok, Err}
 use lib.Dec.{eqb}
 use lib.ListN.{length, length-take, length-drop}
 use Rattle.chip.specs.declared.Half.{Half}
 use Rattle.chip.specs.declared.Half.TheVariants.{First, Second}
+use Rattle.chip.specs.declared.Refusal.{Refusal}
 use Rattle.chip.specs.declared.Refusal.TheVariants.{Length, Unrepairable}
 use Rattle.ecc.specs.Claims.{told}
 use Rattle.ecc.specs.Flips.{Place, data_at, Real}
@@ -19,10 +21,7 @@ use Rattle.ecc.specs.declared.Verdict.{Verdict}
 use Rattle.ecc.specs.declared.Verdict.TheVariants.{Clean, CodeBit, DataBit, NotRepairable}
 use Rattle.ecc.proofs.Places.{locates}
 use Rattle.spare.specs.Reading.{spare_answer}
-use Rattle.spare.specs.declared.SpareAnswer.{SpareAnswer}
-use Rattle.spare.specs.declared.SpareAnswer.TheVariants.{Read as SpareRead, Refused as SpareRefused}
 use Rattle.spare.specs.declared.SpareFields.{SpareFields}
-use Rattle.page.specs.declared.PageAnswer.TheVariants.{Read, Refused}
 use Rattle.page.specs.declared.PageFields.{PageFields}
 use Rattle.page.specs.Claims.{Page}
 use Rattle.page.specs.Places.{kept_in, data_flipped, TellsPlaces}
@@ -36,12 +35,12 @@ both P a b Second = b
 -- ---- what is known of a page that is read
 pub record IsRead (p : Page) (f : PageFields) : Type 0 where
   pub long : length p.bytes ≡ 512
-  pub spare : spare_answer p.spare ≡ SpareRead f.spare
+  pub spare : spare_answer p.spare ≡ Ok f.spare
   pub tells : (h : Half) → verdict_in h f ≡ told (kept_in h p)
   pub repairable : (h : Half) → is_repairable (verdict_in h f) ≡ true
 
 -- both halves are repairable, and what was known is kept
-verdicts_kept : (s : SpareFields) (v u : Verdict) (f : PageFields) → by_verdicts s v u ≡ Read f
+verdicts_kept : (s : SpareFields) (v u : Verdict) (f : PageFields) → by_verdicts s v u ≡ Ok f
     → (f ≡ record { spare = s; first = v; second = u }) × (is_repairable v ≡ true) × (is_repairable u ≡ true)
 unfolding by_verdicts
 verdicts_kept s v u f e = go (is_repairable v) (is_repairable u) refl refl e
@@ -50,21 +49,21 @@ verdicts_kept s v u f e = go (is_repairable v) (is_repairable u) refl refl e
     kept = record { spare = s; first = v; second = u }
 
     go : (a b : Bool) → is_repairable v ≡ a → is_repairable u ≡ b
-        → cond a (cond b (Read kept) (Refused (Unrepairable Second))) (Refused (Unrepairable First)) ≡ Read f
+        → cond a (cond b (Ok kept) (Err (Unrepairable Second))) (Err (Unrepairable First)) ≡ Ok f
         → (f ≡ kept) × (is_repairable v ≡ true) × (is_repairable u ≡ true)
     go true true x y e = (cc, x, y)
     go true false x y e = let none : ◌≡◌ {A = ℕ} 0 1 = cc in absurd (omega arith)
     go false b x y e = let none : ◌≡◌ {A = ℕ} 0 1 = cc in absurd (omega arith)
 
-pub is_read : (p : Page) (f : PageFields) → page_answer p.bytes p.spare ≡ Read f → IsRead p f
+pub is_read : (p : Page) (f : PageFields) → page_answer p.bytes p.spare ≡ Ok f → IsRead p f
 unfolding page_answer
 is_read p f e = go (eqb (length p.bytes) 512) refl (spare_answer p.spare) refl e
   where
-    go : (t : Bool) → eqb (length p.bytes) 512 ≡ t → (a : SpareAnswer) → spare_answer p.spare ≡ a
-        → cond t (by_spare p.bytes p.spare a) (Refused Length) ≡ Read f → IsRead p f
+    go : (t : Bool) → eqb (length p.bytes) 512 ≡ t → (a : Result SpareFields Refusal) → spare_answer p.spare ≡ a
+        → cond t (by_spare p.bytes p.spare a) (Err Length) ≡ Ok f → IsRead p f
     go false l a ea e = let none : ◌≡◌ {A = ℕ} 0 1 = cc in absurd (omega arith)
-    go true l (SpareRefused r) ea e = let none : ◌≡◌ {A = ℕ} 0 1 = cc in absurd (omega arith)
-    go true l (SpareRead s) ea e =
+    go true l (Err r) ea e = let none : ◌≡◌ {A = ℕ} 0 1 = cc in absurd (omega arith)
+    go true l (Ok s) ea e =
         let g : PageFields = record { spare = s; first = told (kept_in First p); second = told (kept_in Second p) } in
         let kept = verdicts_kept s g.first g.second f e in
         subst (IsRead p) (sym kept.0)

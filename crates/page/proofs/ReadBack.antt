@@ -6,10 +6,12 @@ use mathlib.Core.Path.{◌≡◌, refl, ◌∙◌, ap}
 use Prim.Native.Nat.{ℕ, ◌+◌, ◌≤◌}
 use native.Mathlib.Omega.{arith}
 use borrow.Author.Tests.{lt-ltb}
+use Rattle.std.specs.Prelude.{Result, Err}
 use lib.ListN.{length}
 use Rattle.bits.proofs.Bytes.{flip_twice}
 use Rattle.chip.specs.declared.Half.{Half}
 use Rattle.chip.specs.declared.Half.TheVariants.{First, Second}
+use Rattle.chip.specs.declared.Refusal.{Refusal}
 use Rattle.chip.specs.declared.Refusal.TheVariants.{Unrepairable}
 use Rattle.ecc.specs.Claims.{Protects, told}
 use Rattle.ecc.specs.Flips.{Place, data_at, code_at, Real, named, written as kept}
@@ -19,9 +21,8 @@ use Rattle.ecc.proofs.Protection.{protects}
 use Rattle.spare.specs.Claims.{Writable, spare_fields_of}
 use Rattle.spare.specs.Writing.{first_half, second_half}
 use Rattle.spare.proofs.ReadBack.{spare_reads_back}
-use Rattle.page.specs.declared.PageAnswer.{PageAnswer}
-use Rattle.page.specs.declared.PageAnswer.TheVariants.{Refused}
 use Rattle.ecc.proofs.Places.{named_places}
+use Rattle.page.specs.declared.PageFields.{PageFields}
 use Rattle.page.specs.Claims.{Page, written, flipped, Flips, none, one, two, RealFlips, with_flips, flip_verdict, flip_places, flip_repairs, unless_two, flip_answer, flip_data, Reading, ReadsBack}
 use Rattle.page.specs.Pages.{is_repairable, by_verdicts, data_by}
 use Rattle.page.proofs.TwoHalves.{kept_with, flips_in, start, page_second, page_both, page_length, page_read}
@@ -62,12 +63,12 @@ flips_repairs (one q) = named_repairs q
 flips_repairs (two q r) = refl
 
 -- two are refused, fewer are put right
-flips_answer : (h : Half) (f : Flips) (a : PageAnswer) → cond (is_repairable (flip_verdict f)) a (Refused (Unrepairable h)) ≡ unless_two h f a
+flips_answer : (h : Half) (f : Flips) (a : Result PageFields Refusal) → cond (is_repairable (flip_verdict f)) a (Err (Unrepairable h)) ≡ unless_two h f a
 flips_answer h none a = refl
 flips_answer h (one q) a = rw (named_repairable q)
 flips_answer h (two q r) a = refl
 
-flips_leave : (h : Half) (f : Flips) (a : PageAnswer) (asWritten lent : List ℕ)
+flips_leave : (h : Half) (f : Flips) (a : Result PageFields Refusal) (asWritten lent : List ℕ)
     → (is_repairable (flip_verdict f) ≡ true → data_by a lent ≡ flip_data a asWritten lent)
     → data_by (unless_two h f a) lent ≡ flip_data (unless_two h f a) asWritten lent
 flips_leave h none a asWritten lent k = k refl

@@ -8,11 +8,13 @@ use Prim.Native.Nat.{ℕ, ◌^◌}
 use native.Mathlib.Nat.{zero-add}
 use native.Mathlib.Omega.{arith}
 use borrow.Author.Tests.{eq-eqb}
+use Rattle.std.specs.Prelude.{Result}
 use lib.Bits.{bit_xor}
 use lib.Dec.{ltb}
 use lib.ListN.{length, get_or, length-append, length-set, length-take, length-drop, take-append-drop}
 use lib.Seq.{take_at, drop_at}
 use Rattle.bits.proofs.Bytes.{flip_left, flip_right}
+use Rattle.chip.specs.declared.Refusal.{Refusal}
 use Rattle.chip.specs.declared.Half.{Half}
 use Rattle.chip.specs.declared.Half.TheVariants.{First, Second}
 use Rattle.ecc.specs.declared.Verdict.{Verdict}
@@ -21,7 +23,7 @@ use Rattle.ecc.specs.Flips.{Place, data_at, code_at, Real, flip_code, Kept, flip
 use Rattle.spare.specs.Claims.{Writable, spare_fields_of}
 use Rattle.spare.specs.Writing.{first_half, second_half, spare_with, spare_of}
 use Rattle.spare.proofs.ReadBack.{spare_read}
-use Rattle.page.specs.declared.PageAnswer.{PageAnswer}
+use Rattle.page.specs.declared.PageFields.{PageFields}
 use Rattle.page.specs.Claims.{Page, written, flipped, Flips, none, one, two, RealFlips, with_flips, Reading}
 use Rattle.page.specs.Pages.{by_verdicts, page_answer, data_by, data_after}
 
@@ -130,10 +132,10 @@ module _ {bytes : List ℕ} {tag path count : ℕ} (w : Writable bytes tag path 
       rw (eq-eqb (length (x ++ y)) 512 (page_length ks), spare_read w ks.first.code ks.second.code, take_at x y 256 ks.first_whole, drop_at x y 256 ks.first_whole)
 
   -- from what the halves tell, what that answers, and the data that the answer leaves
-  pub page_read : {p : Page} {v u : Verdict} {a : PageAnswer} {after : List ℕ} (ks : Halves)
+  pub page_read : {p : Page} {v u : Verdict} {a : Result PageFields Refusal} {after : List ℕ} (ks : Halves)
       → p ≡ page ks → told ks.first ≡ v → told ks.second ≡ u → by_verdicts (spare_fields_of tag path count) v u ≡ a → data_by a p.bytes ≡ after → Reading p a after
   unfolding data_after
-  page_read {p} {a = a} ks e f s b d = record { answered = answer; left = ap (λ (a : PageAnswer). data_by a p.bytes) answer ∙ d }
+  page_read {p} {a = a} ks e f s b d = record { answered = answer; left = ap (λ (a : Result PageFields Refusal). data_by a p.bytes) answer ∙ d }
     where
       answer : page_answer p.bytes p.spare ≡ a
       answer = rw e (page-told ks ∙ rw (f, s) b)

@@ -1,10 +1,11 @@
 -- Demand 2 for pages: what may be written is written, and reads back as the same fields; in a page otherwise as written, one flipped bit
 -- in a half, among its 256 bytes or their 22 code bits, still gives the data as written and is told by its place, and two are refused,
 -- whatever the other half has.
-use Rattle.std.specs.Prelude.{cond, List, [], ◌∷◌, ◌≡◌, ℕ, ◌+◌, ◌-◌, ltb}
+use Rattle.std.specs.Prelude.{cond, List, [], ◌∷◌, ◌≡◌, ℕ, ◌+◌, ◌-◌, ltb, Result, Ok, Err}
 use Rattle.bits.specs.Bytes.{flip_at}
 use Rattle.chip.specs.declared.Half.{Half}
 use Rattle.chip.specs.declared.Half.TheVariants.{First, Second}
+use Rattle.chip.specs.declared.Refusal.{Refusal}
 use Rattle.chip.specs.declared.Refusal.TheVariants.{Unrepairable}
 use Rattle.ecc.specs.Flips.{Place, data_at, code_at, Real, named}
 use Rattle.ecc.specs.Verdicts.{half_start}
@@ -12,8 +13,6 @@ use Rattle.ecc.specs.declared.Verdict.{Verdict}
 use Rattle.ecc.specs.declared.Verdict.TheVariants.{Clean, NotRepairable}
 use Rattle.spare.specs.Claims.{spare_fields_of, SpareReadsBack}
 use Rattle.spare.specs.Writing.{spare_of}
-use Rattle.page.specs.declared.PageAnswer.{PageAnswer}
-use Rattle.page.specs.declared.PageAnswer.TheVariants.{Read, Refused}
 use Rattle.page.specs.declared.PageFields.{PageFields}
 use Rattle.page.specs.Pages.{code_place, page_answer, data_after, places_in, page_repairs}
 
@@ -79,22 +78,22 @@ abbrev pub fields_of : ℕ → ℕ → ℕ → Verdict → Verdict → PageField
 fields_of tag path count first second = record { spare = spare_fields_of tag path count; first = first; second = second }
 
 -- refusal 6 where half h has two flipped bits, else the answer a
-abbrev pub unless_two : Half → Flips → PageAnswer → PageAnswer
+abbrev pub unless_two : Half → Flips → Result PageFields Refusal → Result PageFields Refusal
 unless_two h none a = a
 unless_two h (one q) a = a
-unless_two h (two q r) a = Refused (Unrepairable h)
+unless_two h (two q r) a = Err (Unrepairable h)
 
 -- the answer, with f flipped in the first half and g in the second: the first half is named if both have two; else the fields as written
-abbrev pub flip_answer : ℕ → ℕ → ℕ → Flips → Flips → PageAnswer
-flip_answer tag path count f g = unless_two First f (unless_two Second g (Read (fields_of tag path count (flip_verdict f) (flip_verdict g))))
+abbrev pub flip_answer : ℕ → ℕ → ℕ → Flips → Flips → Result PageFields Refusal
+flip_answer tag path count f g = unless_two First f (unless_two Second g (Ok (fields_of tag path count (flip_verdict f) (flip_verdict g))))
 
 -- the data after it: as written where the page was read, as lent where it was refused
-abbrev pub flip_data : PageAnswer → List ℕ → List ℕ → List ℕ
-flip_data (Read f) asWritten lent = asWritten
-flip_data (Refused r) asWritten lent = lent
+abbrev pub flip_data : Result PageFields Refusal → List ℕ → List ℕ → List ℕ
+flip_data (Ok f) asWritten lent = asWritten
+flip_data (Err r) asWritten lent = lent
 
 -- what reading a page answers, and the data after it
-pub record Reading (p : Page) (answer : PageAnswer) (after : List ℕ) : Type 0 where
+pub record Reading (p : Page) (answer : Result PageFields Refusal) (after : List ℕ) : Type 0 where
   pub answered : page_answer p.bytes p.spare ≡ answer
   pub left : data_after p.bytes p.spare ≡ after
 

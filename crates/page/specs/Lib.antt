@@ -1,4 +1,3 @@
 pub mod Pages
-pub mod Judging
 pub mod Claims
 pub mod Places

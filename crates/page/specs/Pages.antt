@@ -1,7 +1,8 @@
 -- Document 01: reading a page, 512 data and 16 spare bytes, with repair of both halves.
-use Rattle.std.specs.Prelude.{Bool, true, false, cond, List, ℕ, ◌+◌, eqb, length, get_or}
+use Rattle.std.specs.Prelude.{Bool, true, false, cond, List, ℕ, ◌+◌, eqb, length, get_or, Result, Ok, Err}
 use Rattle.chip.specs.declared.Half.{Half}
 use Rattle.chip.specs.declared.Half.TheVariants.{First, Second}
+use Rattle.chip.specs.declared.Refusal.{Refusal}
 use Rattle.chip.specs.declared.Refusal.TheVariants.{Length, Unrepairable}
 use Rattle.ecc.specs.Flips.{Place}
 use Rattle.ecc.specs.Places.{places}
@@ -9,13 +10,9 @@ use Rattle.ecc.specs.Verdicts.{found, mended, repairs}
 use Rattle.ecc.specs.declared.Code.{Code}
 use Rattle.ecc.specs.declared.Verdict.{Verdict}
 use Rattle.ecc.specs.declared.Verdict.TheVariants.{Clean, CodeBit, DataBit, NotRepairable}
-use Rattle.spare.specs.declared.SpareAnswer.{SpareAnswer}
-use Rattle.spare.specs.declared.SpareAnswer.TheVariants.{Read as SpareRead, Refused as SpareRefused}
 use Rattle.spare.specs.declared.SpareFields.{SpareFields}
 use Rattle.spare.specs.Reading.{spare_answer, spare_repairs}
 use Rattle.spare.specs.Writing.{first_half, second_half}
-use Rattle.page.specs.declared.PageAnswer.{PageAnswer}
-use Rattle.page.specs.declared.PageAnswer.TheVariants.{Read, Refused}
 use Rattle.page.specs.declared.PageFields.{PageFields}
 
 -- bytes 8-10 hold the code of the second half, bytes 13-15 of the first
@@ -34,25 +31,25 @@ is_repairable (DataBit a b) = true
 is_repairable NotRepairable = false
 
 -- both halves are known: the first is named if both are not repairable
-unfoldable pub by_verdicts : SpareFields → Verdict → Verdict → PageAnswer
+unfoldable pub by_verdicts : SpareFields → Verdict → Verdict → Result PageFields Refusal
 by_verdicts f first second =
     cond (is_repairable first)
-    (cond (is_repairable second) (Read (record { spare = f; first = first; second = second })) (Refused (Unrepairable Second)))
-    (Refused (Unrepairable First))
+    (cond (is_repairable second) (Ok (record { spare = f; first = first; second = second })) (Err (Unrepairable Second)))
+    (Err (Unrepairable First))
 
 -- the spare is known
-abbrev pub by_spare : List ℕ → List ℕ → SpareAnswer → PageAnswer
-by_spare bytes s (SpareRefused r) = Refused r
-by_spare bytes s (SpareRead f) = by_verdicts f (found (first_half bytes) (stored_code First s)) (found (second_half bytes) (stored_code Second s))
+abbrev pub by_spare : List ℕ → List ℕ → Result SpareFields Refusal → Result PageFields Refusal
+by_spare bytes s (Err r) = Err r
+by_spare bytes s (Ok f) = by_verdicts f (found (first_half bytes) (stored_code First s)) (found (second_half bytes) (stored_code Second s))
 
 -- the answer of reading a page: refusals 1, 3, 4, then one of 51 to 53, then 6
-unfoldable pub page_answer : List ℕ → List ℕ → PageAnswer
-page_answer bytes s = cond (eqb (length bytes) 512) (by_spare bytes s (spare_answer s)) (Refused Length)
+unfoldable pub page_answer : List ℕ → List ℕ → Result PageFields Refusal
+page_answer bytes s = cond (eqb (length bytes) 512) (by_spare bytes s (spare_answer s)) (Err Length)
 
 -- the data after it: repaired only where the whole read succeeds
-abbrev pub data_by : PageAnswer → List ℕ → List ℕ
-data_by (Refused r) bytes = bytes
-data_by (Read f) bytes = mended Second f.second (mended First f.first bytes)
+abbrev pub data_by : Result PageFields Refusal → List ℕ → List ℕ
+data_by (Err r) bytes = bytes
+data_by (Ok f) bytes = mended Second f.second (mended First f.first bytes)
 
 unfoldable pub data_after : List ℕ → List ℕ → List ℕ
 data_after bytes s = data_by (page_answer bytes s) bytes

@@ -1,5 +1,5 @@
 -- Document 02, T-05, of any page that is read, as written or not: which places it tells of its halves, what was put right there, and what they count.
-use Rattle.std.specs.Prelude.{List, [], ◌∷◌, ◌≡◌, ℕ, ◌+◌, length}
+use Rattle.std.specs.Prelude.{List, [], ◌∷◌, ◌≡◌, ℕ, ◌+◌, length, Ok}
 use Rattle.bits.specs.Bytes.{flip_at}
 use Rattle.chip.specs.declared.Half.{Half}
 use Rattle.chip.specs.declared.Half.TheVariants.{First, Second}
@@ -8,7 +8,6 @@ use Rattle.ecc.specs.Places.{Located}
 use Rattle.ecc.specs.Verdicts.{half_start}
 use Rattle.spare.specs.Reading.{spare_repairs}
 use Rattle.spare.specs.Writing.{first_half, second_half}
-use Rattle.page.specs.declared.PageAnswer.TheVariants.{Read}
 use Rattle.page.specs.declared.PageFields.{PageFields}
 use Rattle.page.specs.Claims.{Page}
 use Rattle.page.specs.Pages.{stored_code, page_answer, data_after, places_in, page_repairs}
@@ -30,7 +29,7 @@ pub record PutRight (p : Page) (told : Half → List Place) (after : List ℕ) :
   pub left : after ≡ data_flipped Second (told Second) (data_flipped First (told First) p.bytes)
 
 abbrev pub TellsPlaces : Type 0
-TellsPlaces = (p : Page) (f : PageFields) → page_answer p.bytes p.spare ≡ Read f → PutRight p (λ h. places_in h f) (data_after p.bytes p.spare)
+TellsPlaces = (p : Page) (f : PageFields) → page_answer p.bytes p.spare ≡ Ok f → PutRight p (λ h. places_in h f) (data_after p.bytes p.spare)
 
 -- document 01's count of repairs is the number of places plus the repaired tag and words
 abbrev pub CountsPlaces : Type 0

@@ -1,13 +1,12 @@
 // Reading a page of the small chip, its data and its spare, with repair in place.
 #![tactic(auto)]
 
-ghost use Rattle.std.specs.Prelude.{◌≡◌, ◌+◌, length};
-ghost use Rattle.page.specs.Judging.{judged_by};
+ghost use Rattle.std.specs.Prelude.{◌≡◌};
 ghost use Rattle.page.specs.Pages.{is_repairable, by_verdicts, stored_code, by_spare, page_answer, data_after, page_repairs};
 
 use chip::{Half, Refusal, SmallChip};
 use ecc::{Code, Verdict};
-use spare::{SpareAnswer, SpareFields};
+use spare::SpareFields;
 
 // What a page tells: its spare's fields, and what was put right in each half.
 #[derive(Clone, Copy)]
@@ -22,19 +21,8 @@ impl PageFields {
     pub fn repairs(self) -> u8
         ensures { result ≡ page_repairs self }
     {
-        let spare = self.spare;
-        let repaired = spare.repaired;
-        let first = self.first;
-        let second = self.second;
-        repaired.repairs() + first.repairs() + second.repairs()
+        self.spare.repaired.repairs() + self.first.repairs() + self.second.repairs()
     }
-}
-
-// What reading a page answers.
-#[derive(Clone, Copy)]
-pub enum PageAnswer {
-    Read(PageFields),
-    Refused(Refusal),
 }
 
 // Can a half be put right, or does it need nothing?
@@ -42,62 +30,31 @@ fn is_repairable(v: Verdict) -> bool
     ensures { result ≡ is_repairable v }
 {
     match v {
-        Verdict::Clean => true,
-        Verdict::CodeBit(_) => true,
-        Verdict::DataBit(_, _) => true,
         Verdict::NotRepairable => false,
+        _ => true,
     }
 }
 
-// What will be answered, and what will be put right in each half.
-#[derive(Clone, Copy)]
-struct Judged {
-    answer: PageAnswer,
-    first: Verdict,
-    second: Verdict,
-}
-
-// A refusal, with nothing to put right.
-fn refused(r: Refusal) -> Judged
-    ensures { result ≡ judged_by (PageAnswer.Refused r) }
-{
-    let none = Verdict::Clean;
-    Judged {
-        answer: PageAnswer::Refused(r),
-        first: none,
-        second: none,
-    }
-}
-
-// What is judged where spare and halves are known.
-fn by_verdicts(f: SpareFields, first: Verdict, second: Verdict) -> Judged
-    ensures { result ≡ judged_by (by_verdicts f first second) }
+// What a page tells where its spare's fields and its halves' verdicts are known. Of two halves past repair the first is named.
+#[tactic(auto, unfolding(crate::specs::Pages::by_verdicts))]
+fn by_verdicts(spare: SpareFields, first: Verdict, second: Verdict) -> Result<PageFields, Refusal>
+    ensures { result ≡ by_verdicts spare first second }
 {
     if !is_repairable(first) {
-        return refused(Refusal::Unrepairable(Half::First));
+        return Err(Refusal::Unrepairable(Half::First));
     }
     if !is_repairable(second) {
-        return Judged {
-            answer: PageAnswer::Refused(Refusal::Unrepairable(Half::Second)),
-            first: Verdict::Clean,
-            second: Verdict::Clean,
-        };
+        return Err(Refusal::Unrepairable(Half::Second));
     }
-    let fields = PageFields {
-        spare: f,
-        first: first,
-        second: second,
-    };
-    Judged {
-        answer: PageAnswer::Read(fields),
-        first: first,
-        second: second,
-    }
+    Ok(PageFields {
+        spare,
+        first,
+        second,
+    })
 }
 
 // The stored code of a half.
-fn stored_code(spare: &[u8], half: Half) -> Code
-    requires { length spare.now ≡ 16 }
+fn stored_code(spare: &[u8; SmallChip::SPARE], half: Half) -> Code
     ensures { result ≡ stored_code half spare.now }
 {
     match half {
@@ -115,41 +72,42 @@ fn stored_code(spare: &[u8], half: Half) -> Code
 }
 
 // Both halves judged by the codes of a spare.
-fn judge_halves(bytes: &[u8], spare: &[u8], f: SpareFields) -> Judged
-    requires { (length bytes.now ≡ 512) × (length spare.now ≡ 16) }
-    ensures { result ≡ judged_by (by_spare bytes.now spare.now (SpareAnswer.Read f)) }
+fn judge_halves(
+    bytes: &[u8; SmallChip::PAGE],
+    spare: &[u8; SmallChip::SPARE],
+    fields: SpareFields,
+) -> Result<PageFields, Refusal>
+    ensures { result ≡ by_spare bytes.now spare.now (Ok fields) }
 {
-    let first = ecc::judge_half(&bytes[..SmallChip::HALF], stored_code(spare, Half::First));
-    let second = ecc::judge_half(&bytes[SmallChip::HALF..], stored_code(spare, Half::Second));
-    by_verdicts(f, first, second)
+    let (first, second) = bytes.split_at(SmallChip::HALF);
+    let first = ecc::judge_half(first, stored_code(spare, Half::First));
+    let second = ecc::judge_half(second, stored_code(spare, Half::Second));
+    by_verdicts(fields, first, second)
 }
 
 // A page judged; nothing is changed.
-fn judge_page(bytes: &[u8], spare: &[u8]) -> Judged
-    ensures { result ≡ judged_by (page_answer bytes.now spare.now) }
+#[tactic(auto, unfolding(crate::specs::Pages::page_answer, spare::specs::Reading::spare_answer))]
+fn judge_page(bytes: &[u8], spare: &[u8]) -> Result<PageFields, Refusal>
+    ensures { result ≡ page_answer bytes.now spare.now }
 {
-    if bytes.len() != SmallChip::PAGE {
-        return refused(Refusal::Length);
-    }
-    if spare.len() != SmallChip::SPARE {
-        return refused(Refusal::Length);
-    }
-    match spare::read_spare(spare) {
-        SpareAnswer::Refused(r) => refused(r),
-        SpareAnswer::Read(f) => judge_halves(bytes, spare, f),
-    }
+    let Ok(bytes) = <&[u8; SmallChip::PAGE]>::try_from(bytes) else {
+        return Err(Refusal::Length);
+    };
+    let Ok(spare) = <&[u8; SmallChip::SPARE]>::try_from(spare) else {
+        return Err(Refusal::Length);
+    };
+    let fields = spare::read_spare(spare)?;
+    judge_halves(bytes, spare, fields)
 }
 
 // Reads a page: judged first; then, where the whole read succeeds, both halves are put right in place.
-pub fn read_page(bytes: &mut [u8], spare: &[u8]) -> PageAnswer
+#[tactic(auto, unfolding(crate::specs::Pages::data_after))]
+pub fn read_page(bytes: &mut [u8], spare: &[u8]) -> Result<PageFields, Refusal>
     ensures answer { result ≡ page_answer bytes.old spare.now }
     ensures repaired { bytes.new ≡ data_after bytes.old spare.now }
 {
-    let judged = judge_page(bytes, spare);
-    let first = judged.first;
-    let second = judged.second;
-    ecc::mend(bytes, Half::First, first);
-    ecc::mend(bytes, Half::Second, second);
-    let answer = judged.answer;
-    answer
+    let read = judge_page(bytes, spare)?;
+    ecc::mend(bytes, Half::First, read.first);
+    ecc::mend(bytes, Half::Second, read.second);
+    Ok(read)
 }

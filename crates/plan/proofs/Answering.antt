@@ -1,106 +1,99 @@
--- Planning and page images answer by what was judged: a refusal of what was lent, or what is planned for the pair's case.
+-- Planning and page images answer by what was judged: a refusal of what was lent or of the pair, or what is planned for the work that the pair's
+-- case comes to.
 -- Assumes nothing.
+use Rattle.std.specs.Prelude.{Result, Ok, Err}
+use mathlib.Core.Bool.{Bool, true, false, ◌&&◌}
 use mathlib.Core.List.{List}
-use mathlib.Core.Path.{◌≡◌, refl, ◌∙◌, ap, sym, subst}
+use mathlib.Core.Path.{◌≡◌, refl, ◌∙◌, ap, sym}
 use Prim.Native.Nat.{ℕ}
-use lib.ListN.{length}
 use Rattle.bbt.specs.Failures.{failures}
-use Rattle.bbt.specs.Lent.{lent_plan, planned, on_chip}
+use Rattle.bbt.specs.Lent.{judged, region_lent, call_lent, statuses_right, lent_plan, on_chip}
 use Rattle.bbt.specs.Pages.{seen}
+use Rattle.bbt.specs.Pairs.{pair_case}
 use Rattle.bbt.specs.Plans.{Answer, refuse, Call, for_update, for_recovery, plan_by_rules}
-use Rattle.bbt.specs.Told.{told_answer}
-use Rattle.bbt.specs.declared.PairCase.{PairCase}
-use Rattle.bbt.specs.declared.PlanAnswer.TheVariants.{Refused}
+use Rattle.bbt.specs.Told.{told_answer, told_case}
 use Rattle.chip.specs.Large.{chip_of}
-use Rattle.chip.specs.declared.ChipAnswer.{ChipAnswer}
-use Rattle.chip.specs.declared.ChipAnswer.TheVariants.{Chip, Refused as NoChip}
 use Rattle.chip.specs.declared.LargeChip.{LargeChip}
 use Rattle.chip.specs.declared.Refusal.{Refusal}
-use Rattle.plan.proofs.Keeping.{failures_none}
-use Rattle.plan.proofs.Working.{beside_of, wanted_of, work_of, work_plans, work_sourced}
+use Rattle.chip.specs.declared.Refusal.TheVariants.{Length, Range}
+use Rattle.plan.proofs.Working.{answer_of, call_plans}
 use Rattle.plan.specs.Answers.{plan_answer}
-use Rattle.plan.specs.Works.{work_answer, Sourced}
+use Rattle.plan.specs.Calls.{beside_of, wanted_of}
+use Rattle.plan.specs.Works.{call_work, work_answer}
 use Rattle.plan.specs.declared.Work.{Work}
-use Rattle.region.proofs.Judged.{case_known, judged_case, judged_out}
-use Rattle.region.specs.Cases.{lent_case}
-use Rattle.region.specs.declared.Beside.TheVariants.{Nothing, Bitmap}
-use Rattle.region.specs.declared.LentCase.TheVariants.{Case as TheCase, Refused as NoCase}
-use Rattle.retire.specs.Retiring.{Lends}
+use Rattle.region.proofs.Judged.{by_lent}
+use Rattle.region.specs.Cases.{beside_lent, lent_chip}
+use Rattle.retire.proofs.Failing.{refused_on}
 
 module _ (call : Call) (n size : ℕ) (image status failed : List ℕ) where
-  planned_out : (r : Refusal) → lent_case n size (beside_of call) image status ≡ NoCase r → planned n size call image status failed ≡ refuse r
-  unfolding planned lent_plan
-  planned_out r e = go call e
-    where
-      go : (call : Call) → lent_case n size (beside_of call) image status ≡ NoCase r → planned n size call image status failed ≡ refuse r
-      go (for_update w) e = judged_out n size (Bitmap (length w)) image status refuse (λ chip. failures chip (seen chip image status) (plan_by_rules chip (seen chip image status) (for_update w)) failed) r e
-      go for_recovery e = judged_out n size Nothing image status refuse (λ chip. failures chip (seen chip image status) (plan_by_rules chip (seen chip image status) for_recovery) failed) r e
-
-  planned_case : (chip : LargeChip) (c : PairCase) → lent_case n size (beside_of call) image status ≡ TheCase chip c
-      → planned n size call image status failed
-      ≡ failures chip (seen chip image status) (work_answer chip image (wanted_of call) (work_of call n size image status c)) failed
-  unfolding planned lent_plan
-  planned_case chip c e =
-      go call e
-      ∙ ap (λ (a : Answer). failures chip (seen chip image status) a failed) (sym (work_plans call (case_known n size (beside_of call) image status chip c e)))
-    where
-      go : (call : Call) → lent_case n size (beside_of call) image status ≡ TheCase chip c
-          → planned n size call image status failed ≡ failures chip (seen chip image status) (plan_by_rules chip (seen chip image status) call) failed
-      go (for_update w) e = judged_case n size (Bitmap (length w)) image status refuse (λ own. failures own (seen own image status) (plan_by_rules own (seen own image status) (for_update w)) failed) chip c e
-      go for_recovery e = judged_case n size Nothing image status refuse (λ own. failures own (seen own image status) (plan_by_rules own (seen own image status) for_recovery) failed) chip c e
+  -- what is planned on a chip, once these steps have failed
+  abbrev pub planned_on : LargeChip → Answer
+  planned_on own = failures own (seen own image status) (plan_by_rules own (seen own image status) call) failed
 
   -- what f makes of an answer, where it passes a refusal on
   module _ {A : Type 0} (out : Refusal → A) (f : LargeChip → Answer → A) (passed : (chip : LargeChip) (r : Refusal) → f chip (refuse r) ≡ out r) where
-    pub by_out : (r : Refusal) → lent_case n size (beside_of call) image status ≡ NoCase r
-        → on_chip out (chip_of n size) (λ chip. f chip (lent_plan chip call image status failed)) ≡ out r
-    unfolding planned
-    by_out r e = go (chip_of n size) (planned_out r e)
-      where
-        go : (a : ChipAnswer) → on_chip refuse a (λ chip. lent_plan chip call image status failed) ≡ refuse r
-            → on_chip out a (λ chip. f chip (lent_plan chip call image status failed)) ≡ out r
-        go (NoChip s) p = let q : s ≡ r = cc in ap out q
-        go (Chip chip) p = ap (f chip) p ∙ passed chip r
+    -- is judged in the order of what is lent
+    in_order : (own : LargeChip) (l s : Bool) (a : Answer) → f own (judged refuse l s a) ≡ judged out l s (f own a)
+    in_order own false s a = passed own Length
+    in_order own true false a = passed own Range
+    in_order own true true a = refl
 
-    pub by_work : (chip : LargeChip) (c : PairCase) → lent_case n size (beside_of call) image status ≡ TheCase chip c
-        → (work : Work) → work ≡ work_of call n size image status c
-        → on_chip out (chip_of n size) (λ chip. f chip (lent_plan chip call image status failed))
-        ≡ f chip (failures chip (seen chip image status) (work_answer chip image (wanted_of call) work) failed)
-    unfolding planned
-    by_work chip c e work w =
-        go (chip_of n size) (case_known n size (beside_of call) image status chip c e).the_chip (planned_case chip c e)
-        ∙ ap (λ (x : Work). f chip (failures chip (seen chip image status) (work_answer chip image (wanted_of call) x) failed)) (sym w)
+    same_lent : (own : LargeChip) → call_lent own call ≡ beside_lent own (beside_of call)
+    same_lent own = go call
       where
-        after : Answer
-        after = failures chip (seen chip image status) (work_answer chip image (wanted_of call) (work_of call n size image status c)) failed
+        go : (call : Call) → call_lent own call ≡ beside_lent own (beside_of call)
+        go (for_update w) = refl
+        go for_recovery = refl
 
-        go : (a : ChipAnswer) → a ≡ Chip chip
-            → on_chip refuse a (λ own. lent_plan own call image status failed) ≡ after
-            → on_chip out a (λ own. f own (lent_plan own call image status failed)) ≡ f chip after
-        go a e p = rw e (ap (f chip) (rw e at p))
+    one_chip : (own : LargeChip) → f own (lent_plan own call image status failed)
+        ≡ judged out (region_lent own image status && beside_lent own (beside_of call)) (statuses_right status) (f own (planned_on own))
+    unfolding lent_plan
+    one_chip own =
+        in_order own (region_lent own image status && call_lent own call) (statuses_right status) (planned_on own)
+        ∙ ap (λ (t : Bool). judged out (region_lent own image status && t) (statuses_right status) (f own (planned_on own))) (same_lent own)
+
+    by_chip : on_chip out (chip_of n size) (λ own. f own (lent_plan own call image status failed))
+        ≡ on_chip out (lent_chip n size (beside_of call) image status) (λ own. f own (planned_on own))
+    by_chip = go (chip_of n size) ∙ by_lent n size (beside_of call) image status out (λ own. f own (planned_on own))
+      where
+        go : (a : Result LargeChip Refusal) → on_chip out a (λ own. f own (lent_plan own call image status failed))
+            ≡ on_chip out a (λ own. judged out (region_lent own image status && beside_lent own (beside_of call)) (statuses_right status) (f own (planned_on own)))
+        go (Err r) = refl
+        go (Ok own) = one_chip own
+
+    pub by_out : (r : Refusal) → lent_chip n size (beside_of call) image status ≡ Err r
+        → on_chip out (chip_of n size) (λ own. f own (lent_plan own call image status failed)) ≡ out r
+    by_out r e = by_chip ∙ rw e refl
+
+    module _ (chip : LargeChip) (lent : lent_chip n size (beside_of call) image status ≡ Ok chip) where
+      by_call : on_chip out (chip_of n size) (λ own. f own (lent_plan own call image status failed))
+          ≡ f chip (failures chip (seen chip image status) (answer_of chip image (wanted_of call) (call_work call chip image status (told_case (pair_case chip (seen chip image status))))) failed)
+      by_call = by_chip ∙ rw lent (ap (λ (a : Answer). f chip (failures chip (seen chip image status) a failed)) (sym (call_plans n size chip image status call lent)))
+
+      pub by_no_work : (r : Refusal) → call_work call chip image status (told_case (pair_case chip (seen chip image status))) ≡ Err r
+          → on_chip out (chip_of n size) (λ own. f own (lent_plan own call image status failed)) ≡ out r
+      by_no_work r w =
+          by_call
+          ∙ ap (λ (x : Result Work Refusal). f chip (failures chip (seen chip image status) (answer_of chip image (wanted_of call) x) failed)) w
+          ∙ ap (f chip) (refused_on chip (seen chip image status) r failed) ∙ passed chip r
+
+      pub by_work : (work : Work) → call_work call chip image status (told_case (pair_case chip (seen chip image status))) ≡ Ok work
+          → on_chip out (chip_of n size) (λ own. f own (lent_plan own call image status failed))
+          ≡ f chip (failures chip (seen chip image status) (work_answer chip image (wanted_of call) work) failed)
+      by_work work w = by_call ∙ ap (λ (x : Result Work Refusal). f chip (failures chip (seen chip image status) (answer_of chip image (wanted_of call) x) failed)) w
 
   -- a plan's answer
-  pub answer_out : (r : Refusal) → lent_case n size (beside_of call) image status ≡ NoCase r → plan_answer n size call image status failed ≡ Refused r
+  pub answer_out : (r : Refusal) → lent_chip n size (beside_of call) image status ≡ Err r → plan_answer n size call image status failed ≡ Err r
   unfolding plan_answer
-  answer_out = by_out Refused told_answer (λ chip r. refl)
+  answer_out = by_out Err told_answer (λ chip r. refl)
 
-  pub answer_work : (chip : LargeChip) (c : PairCase) → lent_case n size (beside_of call) image status ≡ TheCase chip c
-      → (work : Work) → work ≡ work_of call n size image status c
-      → plan_answer n size call image status failed
-      ≡ told_answer chip (failures chip (seen chip image status) (work_answer chip image (wanted_of call) work) failed)
+  pub answer_no_work : (chip : LargeChip) (r : Refusal) → lent_chip n size (beside_of call) image status ≡ Ok chip
+      → call_work call chip image status (told_case (pair_case chip (seen chip image status))) ≡ Err r → plan_answer n size call image status failed ≡ Err r
   unfolding plan_answer
-  answer_work = by_work Refused told_answer (λ chip r. refl)
+  answer_no_work chip r lent = by_no_work Err told_answer (λ chip r. refl) chip lent r
 
-  pub answer_first : (chip : LargeChip) (c : PairCase) → lent_case n size (beside_of call) image status ≡ TheCase chip c
-      → (work : Work) → work ≡ work_of call n size image status c → length failed ≡ 0
-      → plan_answer n size call image status failed ≡ told_answer chip (work_answer chip image (wanted_of call) work)
-  answer_first chip c e work w none = answer_work chip c e work w ∙ ap (told_answer chip) (failures_none chip (seen chip image status) _ failed none)
-
-  -- what the work reads, and that a region is lent
-  pub answer_sourced : (chip : LargeChip) (c : PairCase) → lent_case n size (beside_of call) image status ≡ TheCase chip c
-      → (work : Work) → work ≡ work_of call n size image status c
-      → Sourced chip (length image) (length (wanted_of call)) work × Lends n size chip image status
-  answer_sourced chip c e work w =
-      let known = case_known n size (beside_of call) image status chip c e in (
-        subst (λ (x : Work). Sourced chip (length image) (length (wanted_of call)) x) (sym w) (work_sourced call c known),
-        record { the_chip = known.the_chip; region_right = known.region_right; statuses-right = known.statuses-right },
-      )
+  pub answer_work : (chip : LargeChip) (work : Work) → lent_chip n size (beside_of call) image status ≡ Ok chip
+      → call_work call chip image status (told_case (pair_case chip (seen chip image status))) ≡ Ok work
+      → plan_answer n size call image status failed ≡ told_answer chip (failures chip (seen chip image status) (work_answer chip image (wanted_of call) work) failed)
+  unfolding plan_answer
+  answer_work chip work lent = by_work Err told_answer (λ chip r. refl) chip lent work

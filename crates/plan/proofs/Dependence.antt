@@ -1,5 +1,6 @@
 -- The public answers go by N's refusal, or by what bbt's law says is the same.
 -- Assumes nothing.
+use Rattle.std.specs.Prelude.{Result, Ok, Err}
 use mathlib.Core.List.{List}
 use mathlib.Core.Path.{◌≡◌, refl, sym, ap, ◌∙◌}
 use Prim.Native.Nat.{ℕ}
@@ -9,12 +10,10 @@ use Rattle.bbt.specs.Lent.{on_chip, table_reading, planned, imaged}
 use Rattle.bbt.specs.Plans.{Reading, Call}
 use Rattle.bbt.specs.Told.{told_answer}
 use Rattle.chip.specs.Large.{chip_of}
-use Rattle.chip.specs.declared.ChipAnswer.{ChipAnswer}
-use Rattle.chip.specs.declared.ChipAnswer.TheVariants.{Chip, Refused as NoChip}
 use Rattle.chip.specs.declared.LargeChip.{LargeChip}
+use Rattle.chip.specs.declared.Refusal.{Refusal}
 use Rattle.images.specs.Made.{image_answer_by, image_after_by}
 use Rattle.table.specs.Tables.{told_reading, room_by, table_answer, table_after}
-use Rattle.table.specs.declared.TableAnswer.TheVariants.{Refused}
 use Rattle.plan.proofs.Bridge.{bridged}
 use Rattle.plan.specs.Answers.{plan_answer}
 use Rattle.plan.specs.Dependence.{PublicDependence}
@@ -22,22 +21,22 @@ use Rattle.plan.specs.PageImages.{lent_image, image_answer, image_after}
 
 module _ (n size : ℕ) (status x y : List ℕ) where
   -- bbt's law for every N and size: refused ones are answered without a look at the image
-  depends : (a : ChipAnswer) → chip_of n size ≡ a → ((chip : LargeChip) → chip_of n size ≡ Chip chip → Alike chip status x y) → Depends n size status x y
+  depends : (a : Result LargeChip Refusal) → chip_of n size ≡ a → ((chip : LargeChip) → chip_of n size ≡ Ok chip → Alike chip status x y) → Depends n size status x y
   unfolding table_reading planned imaged
-  depends (NoChip r) e alike = record { reads = λ room. rw e; plans = λ call failed. rw e; images = λ call failed i. rw e }
-  depends (Chip chip) e alike = dependence n size chip status x y e (alike chip e)
+  depends (Err r) e alike = record { reads = λ room. rw e; plans = λ call failed. rw e; images = λ call failed i. rw e }
+  depends (Ok chip) e alike = dependence n size chip status x y e (alike chip e)
 
-  plans_same : (a : ChipAnswer) → chip_of n size ≡ a → Depends n size status x y → (call : Call) (failed : List ℕ)
+  plans_same : (a : Result LargeChip Refusal) → chip_of n size ≡ a → Depends n size status x y → (call : Call) (failed : List ℕ)
       → plan_answer n size call x status failed ≡ plan_answer n size call y status failed
   unfolding plan_answer
-  plans_same (NoChip r) e d call failed = rw e
-  plans_same (Chip chip) e d call failed =
+  plans_same (Err r) e d call failed = rw e
+  plans_same (Ok chip) e d call failed =
       (bridged n size chip call x status failed e).plans ∙ ap (told_answer chip) (d.plans call failed) ∙ sym (bridged n size chip call y status failed e).plans
 
   module _ (d : Depends n size status x y) where
     tables_same : (room : List ℕ) → table_answer n size x status room ≡ table_answer n size y status room
     unfolding table_answer
-    tables_same room = ap (λ (t : Reading). on_chip Refused (chip_of n size) (λ chip. told_reading chip t)) (d.reads room)
+    tables_same room = ap (λ (t : Reading). on_chip Err (chip_of n size) (λ chip. told_reading chip t)) (d.reads room)
 
     bitmaps_same : (room : List ℕ) → table_after n size x status room ≡ table_after n size y status room
     unfolding table_after

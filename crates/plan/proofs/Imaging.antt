@@ -1,15 +1,15 @@
 -- The image of a told step: what is told of a plan, with the bitmap that it writes, gives the image of each of its steps.
 -- Assumes nothing.
+use Rattle.std.specs.Prelude.{Option, Result, Ok, Err, Some, None}
 use mathlib.Core.Bool.{Bool, true, false, cond}
 use mathlib.Core.List.{List, [], ◌∷◌, map}
 use mathlib.Core.Path.{◌≡◌, refl, ◌∙◌, ap, ap₂, sym, subst}
 use Prim.Native.Nat.{ℕ, zero, suc}
-use lib.ListN.{length}
 use Rattle.bbt.proofs.ToldSteps.{tells_steps}
 use Rattle.bbt.specs.Copies.{Table}
 use Rattle.bbt.specs.Entries.{updated_bytes}
 use Rattle.bbt.specs.Failures.{failures}
-use Rattle.bbt.specs.Images.{page_image, no_image, image_at, plan_image}
+use Rattle.bbt.specs.Images.{chunk, part_image, page-image, page_image, no_image, image_at, plan_image}
 use Rattle.bbt.specs.Pages.{View}
 use Rattle.bbt.specs.Pairs.{same}
 use Rattle.bbt.specs.Plans.{Step, erase, write, writes, copy_steps, Job, idle, single, double, job_steps, job_version, Plan, zero_first, plan_version, next_version, Answer, refuse, plan, update_from, updated, anded, holds}
@@ -17,17 +17,18 @@ use Rattle.bbt.specs.Told.{told_step, told_plan, told_answer, told_steps, nth_st
 use Rattle.bbt.specs.declared.Kind.{Kind}
 use Rattle.bbt.specs.declared.Kind.TheVariants.{Primary, Mirror}
 use Rattle.bbt.specs.declared.Plan.{Plan as ToldPlan}
-use Rattle.bbt.specs.declared.PlanAnswer.{PlanAnswer}
-use Rattle.bbt.specs.declared.PlanAnswer.TheVariants.{Planned, Refused}
 use Rattle.bbt.specs.declared.Step.{Step as ToldStep}
+use Rattle.bbt.specs.declared.Step.TheVariants.{Erase, Write, Zero}
 use Rattle.chip.specs.Large.{pages_of}
+use Rattle.chip.specs.declared.ChipBlock.{ChipBlock}
 use Rattle.chip.specs.declared.LargeChip.{LargeChip}
 use Rattle.chip.specs.declared.Refusal.{Refusal}
-use Rattle.plan.proofs.Keeping.{failures_none, Planning, Writes, table_kept}
+use Rattle.chip.specs.declared.Refusal.TheVariants.{Range}
+use Rattle.plan.proofs.Keeping.{Planning, Writes, table_kept}
 use Rattle.plan.specs.PageImages.{step_image, told_image}
 use Rattle.plan.specs.Works.{work_answer, work_bitmap}
 use Rattle.plan.specs.declared.Work.{Work}
-use Rattle.plan.specs.declared.Work.TheVariants.{Refused as NoWork, Keep, Update, Copy, Merge}
+use Rattle.plan.specs.declared.Work.TheVariants.{Keep, Update, Copy, Merge}
 use Rattle.region.specs.Stored.{stored_table}
 
 -- ---- steps, each with the image that its told step gives
@@ -93,14 +94,6 @@ module _ (chip : LargeChip) (i : ℕ) where
   told-image t (refuse r) w = refl
   told-image t (plan q) w = plan-told t q w
 
--- ---- the code's way: what was planned, then its step
-pub refused_told : (bitmap : List ℕ) (i : ℕ) {a : PlanAnswer} (r : Refusal) → a ≡ Refused r → told_image bitmap a i ≡ no_image r
-refused_told bitmap i r e = ap (λ (x : PlanAnswer). told_image bitmap x i) e
-
-pub step_told : (bitmap : List ℕ) (i : ℕ) {a : PlanAnswer} (q : ToldPlan) → a ≡ Planned q → (s : ToldStep) → s ≡ nth_step (told_steps q) i
-    → told_image bitmap a i ≡ step_image q.version bitmap s
-step_told bitmap i q e s es = ap (λ (x : PlanAnswer). told_image bitmap x i) e ∙ ap (step_image q.version bitmap) (sym es)
-
 -- ---- a work
 -- the table of what was planned first, whose bitmap is the work's
 abbrev Source : List ℕ → Answer → Type 0
@@ -123,23 +116,44 @@ module _ (chip : LargeChip) (image w : List ℕ) where
 
   work_source : (work : Work) → Source (work_bitmap chip image w work) (work_answer chip image w work)
   unfolding work_bitmap work_answer anded no_table
-  work_source (NoWork r) = (no_table, tt, refl)
   work_source (Keep b) = (no_table, tt, refl)
   work_source (Update p m) = update_source w p.0 m.0 _
   work_source (Copy b t k) = (stored_table chip image b.0, refl, refl)
   work_source (Merge p m) = (anded (stored_table chip image p.0) (stored_table chip image m.0), refl, refl)
 
   -- once steps have failed, the table is the same
-  pub after_told : (R : View) (work : Work) (failed : List ℕ) (i : ℕ) (told : PlanAnswer)
+  pub after_told : (R : View) (work : Work) (failed : List ℕ) (i : ℕ) (told : Result ToldPlan Refusal)
       → told ≡ told_answer chip (failures chip R (work_answer chip image w work) failed)
       → plan_image chip (failures chip R (work_answer chip image w work) failed) i ≡ told_image (work_bitmap chip image w work) told i
   after_told R work failed i told e =
       let src = work_source work in
       told-image chip i src.0 _ (table_kept chip R src.0 (work_answer chip image w work) failed src.1)
-      ∙ ap₂ (λ (l : List ℕ) (x : PlanAnswer). told_image l x i) src.2 (sym e)
+      ∙ ap₂ (λ (l : List ℕ) (x : Result ToldPlan Refusal). told_image l x i) src.2 (sym e)
 
-  -- at once, where none has
-  pub first_told : (R : View) (work : Work) (failed : List ℕ) (i : ℕ) (told : PlanAnswer) → length failed ≡ 0
-      → told ≡ told_answer chip (work_answer chip image w work)
-      → plan_image chip (failures chip R (work_answer chip image w work) failed) i ≡ told_image (work_bitmap chip image w work) told i
-  first_told R work failed i told none e = after_told R work failed i told (e ∙ ap (told_answer chip) (sym (failures_none chip R _ failed none)))
+-- a step that writes nothing
+abbrev pub WritesNone : Option ToldStep → Type 0
+WritesNone s = (b : ChipBlock) (p : ℕ) (k : Kind) → s ≡ Some (Write b p k) → ⊥
+
+-- ---- the image of a step of a work's plan, once steps have failed, by what was told of that plan
+module _ (chip : LargeChip) (image w : List ℕ) (R : View) (work : Work) (failed : List ℕ) (i : ℕ) where
+  pub image_refused : (r : Refusal) → told_answer chip (failures chip R (work_answer chip image w work) failed) ≡ Err r
+      → plan_image chip (failures chip R (work_answer chip image w work) failed) i ≡ no_image r
+  image_refused r e = after_told chip image w R work failed i (Err r) (sym e)
+
+  module _ (q : ToldPlan) (e : told_answer chip (failures chip R (work_answer chip image w work) failed) ≡ Ok q) where
+    by_step : (s : Option ToldStep) → nth_step (told_steps q) i ≡ s
+        → plan_image chip (failures chip R (work_answer chip image w work) failed) i ≡ step_image q.version (work_bitmap chip image w work) s
+    by_step s f = after_told chip image w R work failed i (Ok q) (sym e) ∙ ap (step_image q.version (work_bitmap chip image w work)) f
+
+    pub image_none : WritesNone (nth_step (told_steps q) i) → plan_image chip (failures chip R (work_answer chip image w work) failed) i ≡ no_image Range
+    image_none h = go (nth_step (told_steps q) i) refl h
+      where
+        go : (s : Option ToldStep) → nth_step (told_steps q) i ≡ s → WritesNone s → plan_image chip (failures chip R (work_answer chip image w work) failed) i ≡ no_image Range
+        go None f h = by_step None f
+        go (Some (Erase b)) f h = by_step (Some (Erase b)) f
+        go (Some (Zero b)) f h = by_step (Some (Zero b)) f
+        go (Some (Write b p k)) f h = absurd (h b p k refl)
+
+    pub image_write : (b : ChipBlock) (p : ℕ) (k : Kind) → nth_step (told_steps q) i ≡ Some (Write b p k)
+        → plan_image chip (failures chip R (work_answer chip image w work) failed) i ≡ page-image (part_image k q.version (chunk p (work_bitmap chip image w work)))
+    image_write b p k f = by_step (Some (Write b p k)) f

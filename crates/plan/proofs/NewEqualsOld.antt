@@ -1,9 +1,10 @@
--- The update rule goes part by part: it newEqualsOld a bitmap where it newEqualsOld each page's part.
+-- The update rule goes part by part: it keeps a bitmap where it keeps each page's part.
 -- Assumes nothing.
 use mathlib.Core.Bool.{◌&&◌}
 use mathlib.Core.List.{List, [], ◌∷◌, ◌++◌}
 use mathlib.Core.Path.{◌≡◌, refl, ◌∙◌, ap, ap₂, sym}
-use Prim.Native.Nat.{ℕ, suc, ◌+◌, ◌*◌, ◌<◌, ◌≤◌}
+use Prim.Native.Nat.{ℕ, zero, suc, ◌+◌, ◌*◌, ◌<◌, ◌≤◌}
+use native.Mathlib.Numerals.{add-one}
 use native.Mathlib.Omega.{arith}
 use lib.ListN.{length, take, length-take}
 use lib.Seq.{take-add}
@@ -11,6 +12,7 @@ use Rattle.region.proofs.Stored.{stored_parts_next}
 use Rattle.bbt.proofs.Searches.{same_append}
 use Rattle.bbt.specs.Entries.{updated_byte, updated_bytes}
 use Rattle.bbt.specs.Images.{chunk}
+use Rattle.bbt.specs.Pages.{all}
 use Rattle.bbt.specs.Pairs.{same}
 use Rattle.region.specs.Stored.{stored_parts}
 use Rattle.bitmap.specs.Made.{new_equals_old}
@@ -39,7 +41,7 @@ equal_append a b u v e =
     ap (λ (l : List ℕ). same l (a ++ b)) (updated_append a b u v e) ∙ same_append (updated_bytes a u) (updated_bytes b v) a b (updated_length a u e)
 
 -- one page more
-pub equal_next : (chip : LargeChip) (image : List ℕ) → chip.region * pages_of chip * 2112 ≤ length image → (b p : ℕ) → b < chip.region → p < pages_of chip
+equal_next : (chip : LargeChip) (image : List ℕ) → chip.region * pages_of chip * 2112 ≤ length image → (b p : ℕ) → b < chip.region → p < pages_of chip
     → (wanted : List ℕ) → length wanted ≡ bitmap_bytes chip
     → new_equals_old (stored_parts chip image b (p + 1)) (take (2048 * (p + 1)) wanted)
     ≡ (new_equals_old (stored_parts chip image b p) (take (2048 * p) wanted) && new_equals_old (part_of chip image b p) (chunk p wanted))
@@ -50,3 +52,14 @@ equal_next chip image room b p hb hp wanted hw =
     (ap (λ (k : ℕ). take k wanted) next ∙ take-add (2048 * p) 2048 wanted)
     ∙ equal_append (stored_parts chip image b p) (part_of chip image b p) (take (2048 * p) wanted) (chunk p wanted)
     (stored_long chip image room b p hb (omega arith) ∙ simp length-take (omega arith))
+
+-- a whole bitmap is kept where each page's part is
+pub kept_by_parts : (chip : LargeChip) (image : List ℕ) → chip.region * pages_of chip * 2112 ≤ length image → (b n : ℕ) → b < chip.region → n ≤ pages_of chip
+    → (wanted : List ℕ) → length wanted ≡ bitmap_bytes chip
+    → new_equals_old (stored_parts chip image b n) (take (2048 * n) wanted) ≡ all n (λ p. new_equals_old (part_of chip image b p) (chunk p wanted))
+unfolding stored_parts new_equals_old updated_bytes same all
+kept_by_parts chip image room b zero hb h wanted hw = refl
+kept_by_parts chip image room b (suc n) hb h wanted hw =
+    ap (λ (k : ℕ). new_equals_old (stored_parts chip image b k) (take (2048 * k) wanted)) (sym (add-one n))
+    ∙ equal_next chip image room b n hb (omega arith) wanted hw
+    ∙ ap (λ t. t && new_equals_old (part_of chip image b n) (chunk n wanted)) (kept_by_parts chip image room b n hb (omega arith) wanted hw)

@@ -1,11 +1,10 @@
 -- Document 01: answers of reading, planning and page images depend on N, the region's size, the call's other arguments, the status
 -- bytes, of well-read pages only the bitmap bytes and OOB 14-18, and of a block's first page its 64 OOB bytes. Here of the answers that the
 -- public contracts name, and of what they leave in the lent room. For every N and size of the region: where they are refused, two images need nothing in common.
-use Rattle.std.specs.Prelude.{List, ◌≡◌, ℕ}
+use Rattle.std.specs.Prelude.{List, ◌≡◌, ℕ, Ok}
 use Rattle.bbt.specs.Dependence.{Alike}
 use Rattle.bbt.specs.Plans.{Call}
 use Rattle.chip.specs.Large.{chip_of}
-use Rattle.chip.specs.declared.ChipAnswer.TheVariants.{Chip}
 use Rattle.chip.specs.declared.LargeChip.{LargeChip}
 use Rattle.plan.specs.Answers.{plan_answer}
 use Rattle.plan.specs.PageImages.{image_answer, image_after}
@@ -21,4 +20,4 @@ pub record SameAnswers (n size : ℕ) (status x y : List ℕ) : Type 0 where
 
 abbrev pub PublicDependence : Type 0
 PublicDependence =
-    (n size : ℕ) (status x y : List ℕ) → ((chip : LargeChip) → chip_of n size ≡ Chip chip → Alike chip status x y) → SameAnswers n size status x y
+    (n size : ℕ) (status x y : List ℕ) → ((chip : LargeChip) → chip_of n size ≡ Ok chip → Alike chip status x y) → SameAnswers n size status x y

@@ -1,3 +1,4 @@
+pub mod Calls
 pub mod Works
 pub mod Answers
 pub mod PageImages

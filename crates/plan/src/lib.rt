@@ -2,31 +2,29 @@
 // comes to a work, and its first plan and its page images go by the work; what failed steps make of the plan is the crate `retire`.
 #![tactic(auto)]
 
-ghost use Rattle.std.specs.Prelude.{◌≡◌, ◌*◌, ◌<◌, ◌≤◌, length, take};
+ghost use Rattle.std.specs.Prelude.{true, ◌≡◌, ◌*◌, ◌<◌, ◌≤◌, length, take, None, Ok};
 ghost use Rattle.bbt.specs.Images.{chunk, plan_image};
 ghost use Rattle.bbt.specs.Plans.{for_update, for_recovery, next_version, holds, update_from, other_kind};
 ghost use Rattle.region.specs.Stored.{stored_parts, stored_table};
 ghost use Rattle.bbt.specs.Failures.{failures};
 ghost use Rattle.bbt.specs.Pages.{seen};
-ghost use Rattle.bbt.specs.Told.{told_answer};
+ghost use Rattle.bbt.specs.Pairs.{pair_case};
+ghost use Rattle.bbt.specs.Told.{told_answer, told_case};
 ghost use Rattle.bitmap.specs.Made.{new_equals_old};
 ghost use Rattle.chip.specs.Large.{bitmap_bytes, pages_of};
 ghost use Rattle.images.specs.Made.{image_answer_by, image_after_by};
 ghost use Rattle.plan.specs.Answers.{plan_answer};
-ghost use Rattle.plan.specs.PageImages.{told_image, page_case, image_answer, image_after};
-ghost use Rattle.plan.specs.Works.{update_work, missing_work, newer_work, recovery_work, work_answer, work_bitmap, Sourced};
-ghost use Rattle.retire.specs.Retiring.{Lends};
+ghost use Rattle.plan.specs.Calls.{call_of, beside_of, wanted_of};
+ghost use Rattle.plan.specs.PageImages.{image_answer, image_after};
+ghost use Rattle.plan.specs.Works.{update_work, newer_work, recovery_work, call_work, work_answer, work_bitmap, Placed, Placed-prop};
 
-use bbt::{Kind, PairCase, Plan, PlanAnswer, Retired, Shape, Step};
-use chip::{ChipAnswer, LargeChip, Refusal, RegionBlock};
-use images::ImageAnswer;
-use region::{Beside, LentCase, TargetAnswer};
+use bbt::{Kind, PairCase, Plan, Shape, Step};
+use chip::{LargeChip, Refusal, RegionBlock};
+use region::Region;
 
 // What a call comes to by the pair's case.
 #[derive(Clone, Copy)]
 enum Work {
-    // nothing, and why
-    Refused(Refusal),
     // no step; this block's version is kept
     Keep(RegionBlock),
     // the update rule on the table of the first block, for primary's block and mirror's
@@ -38,15 +36,12 @@ enum Work {
 }
 
 // What an update comes to: the pair has to be settled.
-fn update_work(c: PairCase) -> Work
-    ensures { result ≡ update_work c }
+fn update_work(case: PairCase) -> Result<Work, Refusal>
+    ensures { result ≡ update_work case }
 {
-    match c {
-        PairCase::Refused(r) => Work::Refused(r),
-        PairCase::Alone(_, _) => Work::Refused(Refusal::NotSettled),
-        PairCase::Settled(p, m) => Work::Update(p, m),
-        PairCase::Merging(_, _) => Work::Refused(Refusal::NotSettled),
-        PairCase::Differing(_, _, _) => Work::Refused(Refusal::NotSettled),
+    match case {
+        PairCase::Settled(p, m) => Ok(Work::Update(p, m)),
+        _ => Err(Refusal::NotSettled),
     }
 }
 
@@ -61,17 +56,6 @@ fn other_kind(kind: Kind) -> Kind
     }
 }
 
-// Only one kind is good: the other is copied to the target.
-fn missing_work(kind: Kind, g: RegionBlock, found: TargetAnswer) -> Work
-    ensures { result ≡ missing_work kind g found }
-{
-    match found {
-        TargetAnswer::Refused(r) => Work::Refused(r),
-        TargetAnswer::Missing => Work::Refused(Refusal::NoTarget),
-        TargetAnswer::Found(b) => Work::Copy(g, b, other_kind(kind)),
-    }
-}
-
 // The older copy is written anew from the newer: the sign of d tells which.
 fn newer_work(d: i32, p: RegionBlock, m: RegionBlock) -> Work
     ensures { result ≡ newer_work d p m }
@@ -82,19 +66,61 @@ fn newer_work(d: i32, p: RegionBlock, m: RegionBlock) -> Work
     Work::Copy(p, m, Kind::Mirror)
 }
 
-// What a recovery comes to.
-fn recovery_work(n: u64, size: u64, image: &[u8], status: &[u8], c: PairCase) -> Work
-    ensures { result ≡ recovery_work n size image.now status.now c }
+// What a recovery comes to: where only one kind is good, the other is copied to the target.
+fn recovery_work(region: Region<'_>, case: PairCase) -> Result<Work, Refusal>
+    ensures { result ≡ recovery_work region.entry.chip region.entry.image.now region.entry.status.now case }
 {
-    match c {
-        PairCase::Refused(r) => Work::Refused(r),
+    match case {
         PairCase::Alone(kind, g) => {
             let avoid = region::avoiding([false; LargeChip::REGION_PLACES], g);
-            missing_work(kind, g, region::find_target(n, size, image, status, avoid))
+            match region.target(avoid) {
+                None => Err(Refusal::NoTarget),
+                Some(b) => Ok(Work::Copy(g, b, other_kind(kind))),
+            }
         }
-        PairCase::Settled(p, _) => Work::Keep(p),
-        PairCase::Merging(p, m) => Work::Merge(p, m),
-        PairCase::Differing(d, p, m) => newer_work(d, p, m),
+        PairCase::Settled(p, _) => Ok(Work::Keep(p)),
+        PairCase::Merging(p, m) => Ok(Work::Merge(p, m)),
+        PairCase::Differing(d, p, m) => Ok(newer_work(d, p, m)),
+    }
+}
+
+// What is asked of planning: an update to a wanted bitmap, or a recovery.
+#[derive(Clone, Copy)]
+enum Call<'a> {
+    Update(&'a [u8]),
+    Recovery,
+}
+
+impl<'a> Call<'a> {
+    // The length of the bitmap that is lent beside the region, if one is.
+    fn beside(self) -> Option<usize>
+        ensures { result ≡ beside_of (call_of self.entry) }
+    {
+        match self {
+            Call::Update(wanted) => Some(wanted.len()),
+            Call::Recovery => None,
+        }
+    }
+
+    // The wanted bitmap; of a recovery no bytes.
+    fn wanted(self) -> &'a [u8]
+        ensures { result.now ≡ wanted_of (call_of self.entry) }
+    {
+        match self {
+            Call::Update(wanted) => wanted,
+            Call::Recovery => &[],
+        }
+    }
+
+    // What it comes to by the pair's case.
+    fn work(self, region: Region<'_>) -> Result<Work, Refusal>
+        ensures { result ≡ call_work (call_of self.entry) region.entry.chip region.entry.image.now region.entry.status.now (told_case (pair_case region.entry.chip (seen region.entry.chip region.entry.image.now region.entry.status.now))) }
+    {
+        let case = region.pair_case()?;
+        match self {
+            Call::Update(_) => update_work(case),
+            Call::Recovery => recovery_work(region, case),
+        }
     }
 }
 
@@ -102,6 +128,7 @@ fn recovery_work(n: u64, size: u64, image: &[u8], status: &[u8], c: PairCase) ->
 const VERSIONS: u16 = 256;
 
 // Version plus 1 modulo 256.
+#[tactic(auto, unfolding(bbt::specs::Plans::next_version))]
 fn next_version(v: u8) -> u8
     ensures { result ≡ next_version v }
 {
@@ -109,95 +136,166 @@ fn next_version(v: u8) -> u8
 }
 
 // A plan on a chip, as it is made.
-fn plan_on(chip: LargeChip, version: u8, shape: Shape) -> PlanAnswer
-    ensures { result ≡ PlanAnswer.Planned (record { chip = chip; version = version; retired = Retired.Nothing; shape = shape }) }
+fn plan_on(chip: LargeChip, version: u8, shape: Shape) -> Plan
+    ensures { result ≡ record { chip = chip; version = version; retired = None; shape = shape } }
 {
-    PlanAnswer::Planned(Plan {
-        chip: chip,
-        version: version,
-        retired: Retired::Nothing,
-        shape: shape,
-    })
+    Plan {
+        chip,
+        version,
+        retired: None,
+        shape,
+    }
 }
 
 // Does the update rule keep the table of a block as it is?
-fn new_table_equals_old(chip: LargeChip, image: &[u8], b: RegionBlock, wanted: &[u8]) -> bool
-    requires { (chip.region * pages_of chip * 2112 ≤ length image.now) × (b.0 < chip.region) × (length wanted.now ≡ bitmap_bytes chip) }
-    ensures { result ≡ new_equals_old (stored_parts chip image.now b.0 (pages_of chip)) wanted.now }
+#[tactic(auto, using(bbt::proofs::Searches::all_next), unfolding(bbt::specs::Pages::all))]
+fn new_table_equals_old(region: Region<'_>, b: RegionBlock, wanted: &[u8]) -> bool
+    requires { (b.0 < region.chip.region) × (length wanted.now ≡ bitmap_bytes region.chip) }
+    ensures { result ≡ new_equals_old (stored_parts region.entry.chip region.entry.image.now b.0 (pages_of region.entry.chip)) wanted.now }
 {
-    let pages = chip.pages();
-    let mut kept = true;
-    let mut p: u8 = 0;
-    while (p as usize) < pages {
-        if !bitmap::new_equals_old(region::part(chip, image, b, p), images::chunk_of(wanted, p)) {
-            kept = false;
+    for p in 0..region.chip.pages() as u8 {
+        if !bitmap::new_equals_old(region.part(b, p), images::chunk_of(wanted, p)) {
+            return false;
         }
-        p += 1;
     }
-    kept
+    true
 }
 
 // A plan that writes both copies with the version after this one.
-fn both_copies(chip: LargeChip, version: u8, p: RegionBlock, m: RegionBlock) -> PlanAnswer
-    ensures { result ≡ PlanAnswer.Planned (record { chip = chip; version = next_version version; retired = Retired.Nothing; shape = Shape.Both p m }) }
+fn both_copies(chip: LargeChip, version: u8, p: RegionBlock, m: RegionBlock) -> Plan
+    ensures { result ≡ record { chip = chip; version = next_version version; retired = None; shape = Shape.Both p m } }
 {
     plan_on(chip, next_version(version), Shape::Both(p, m))
 }
 
 // The update of a settled pair: nothing where the new table equals the old, else both copies with version plus 1.
-fn settled_update(
-    chip: LargeChip,
-    image: &[u8],
-    p: RegionBlock,
-    m: RegionBlock,
-    wanted: &[u8],
-) -> PlanAnswer
-    requires { (chip.region * pages_of chip * 2112 ≤ length image.now) × (p.0 < chip.region) × (length wanted.now ≡ bitmap_bytes chip) }
-    ensures { result ≡ told_answer chip (update_from wanted.now (holds p.0 m.0 (stored_table chip image.now p.0))) }
+#[tactic(auto, unfolding(bbt::specs::Plans::update_from, bbt::specs::Plans::updated, bbt::specs::Plans::job_version, bitmap::specs::Made::new_equals_old))]
+fn settled_update(region: Region<'_>, p: RegionBlock, m: RegionBlock, wanted: &[u8]) -> Plan
+    requires { (p.0 < region.chip.region) × (length wanted.now ≡ bitmap_bytes region.chip) }
+    ensures { Ok result ≡ told_answer region.entry.chip (update_from wanted.now (holds p.0 m.0 (stored_table region.entry.chip region.entry.image.now p.0))) }
 {
-    let v = region::version(chip, image, p);
-    if new_table_equals_old(chip, image, p, wanted) {
-        return plan_on(chip, v, Shape::Empty);
+    let version = region.version(p);
+    if new_table_equals_old(region, p, wanted) {
+        return plan_on(region.chip, version, Shape::Empty);
     }
-    both_copies(chip, v, p, m)
+    both_copies(region.chip, version, p, m)
 }
 
-// The first plan of a work.
-fn plan_of(chip: LargeChip, image: &[u8], wanted: &[u8], work: Work) -> PlanAnswer
-    requires { Sourced chip (length image.now) (length wanted.now) work }
-    ensures { result ≡ told_answer chip (work_answer chip image.now wanted.now work) }
-{
-    match work {
-        Work::Refused(r) => PlanAnswer::Refused(r),
-        Work::Keep(b) => plan_on(chip, region::version(chip, image, b), Shape::Empty),
-        Work::Update(p, m) => settled_update(chip, image, p, m, wanted),
-        Work::Copy(from, to, kind) => {
-            let one = Shape::One(kind, to, from);
-            plan_on(chip, region::version(chip, image, from), one)
+// A judged region, the wanted bitmap and the work that a call comes to on them, whose blocks lie in the region.
+#[derive(Clone, Copy)]
+struct Task<'a> {
+    region: Region<'a>,
+    wanted: &'a [u8],
+    work: Work,
+    ghost placed: { Placed region.chip (length wanted.now) work } by { Placed-prop region.chip (length wanted.now) work },
+}
+
+impl<'a> Task<'a> {
+    // The first plan.
+    #[tactic(auto, unfolding(crate::specs::Works::work_answer, bbt::specs::Plans::job_version, bbt::specs::Plans::anded))]
+    fn plan(self) -> Plan
+        ensures { Ok result ≡ told_answer self.entry.region.chip (work_answer self.entry.region.chip self.entry.region.image.now self.entry.wanted.now self.entry.work) }
+    {
+        let region = self.region;
+        match self.work {
+            Work::Keep(b) => plan_on(region.chip, region.version(b), Shape::Empty),
+            Work::Update(p, m) => settled_update(region, p, m, self.wanted),
+            Work::Copy(b, t, k) => plan_on(region.chip, region.version(b), Shape::One(k, t, b)),
+            Work::Merge(p, m) => both_copies(region.chip, region.version(p), p, m),
         }
-        Work::Merge(p, m) => both_copies(chip, region::version(chip, image, p), p, m),
+    }
+
+    // The plan once these steps have failed.
+    fn plan_after(self, failed: &[u8]) -> Result<Plan, Refusal>
+        ensures { result ≡ told_answer self.entry.region.chip (failures self.entry.region.chip (seen self.entry.region.chip self.entry.region.image.now self.entry.region.status.now) (work_answer self.entry.region.chip self.entry.region.image.now self.entry.wanted.now self.entry.work) failed.now) }
+    {
+        let first = self.plan();
+        if failed.is_empty() {
+            return Ok(first);
+        }
+        let region = self.region;
+        retire::after_failures(
+            region.chip.blocks as u64,
+            region.chip.region as u64,
+            region.image,
+            region.status,
+            Ok(first),
+            failed,
+        )
+    }
+
+    // The new table's bytes of page p, put first into `out`; how many there are.
+    fn new_part(self, p: u8, out: &mut [u8]) -> usize
+        requires { length out.old ≡ 2048 }
+        ensures { (result ≤ 2048) × (take result out.new ≡ chunk p (work_bitmap self.entry.region.chip self.entry.region.image.now self.entry.wanted.now self.entry.work)) }
+    {
+        let region = self.region;
+        match self.work {
+            Work::Keep(_) => 0,
+            Work::Update(b, _) => {
+                let old = region.part(b, p);
+                let n = old.len();
+                bitmap::update_into(old, images::chunk_of(self.wanted, p), &mut out[0..n]);
+                n
+            }
+            Work::Copy(b, _, _) => {
+                let old = region.part(b, p);
+                let n = old.len();
+                bits::copy(old, &mut out[0..n]);
+                n
+            }
+            Work::Merge(x, y) => {
+                let old = region.part(x, p);
+                let n = old.len();
+                bitmap::and_into(old, region.part(y, p), &mut out[0..n]);
+                n
+            }
+        }
+    }
+
+    // The page image of a step, once these steps have failed.
+    #[tactic(auto, using(crate::proofs::Imaging::image_refused, crate::proofs::Imaging::image_none, crate::proofs::Imaging::image_write))]
+    fn page(self, failed: &[u8], step: u64, page: &mut [u8]) -> Result<(), Refusal>
+        requires { length page.old ≡ 2112 }
+        ensures answer { result ≡ image_answer_by (plan_image self.entry.region.chip (failures self.entry.region.chip (seen self.entry.region.chip self.entry.region.image.now self.entry.region.status.now) (work_answer self.entry.region.chip self.entry.region.image.now self.entry.wanted.now self.entry.work) failed.now) step) }
+        ensures out { page.new ≡ image_after_by (plan_image self.entry.region.chip (failures self.entry.region.chip (seen self.entry.region.chip self.entry.region.image.now self.entry.region.status.now) (work_answer self.entry.region.chip self.entry.region.image.now self.entry.wanted.now self.entry.work) failed.now) step) page.old }
+    {
+        let plan = self.plan_after(failed)?;
+        let Some(Step::Write(_, p, kind)) = plan.step(step) else {
+            return Err(Refusal::Range);
+        };
+        let made = self.new_part(p, &mut page[0..LargeChip::PAGE]);
+        images::finish_page(made, kind, plan.version, page);
+        Ok(())
     }
 }
 
-// The plan of a work once these steps have failed.
-fn plan_after(
+// Plans what is asked for, or goes on with a plan of which these steps have failed.
+// (A part of both its callers: out of line, work and plan come back through memory, in bytes that are read as words, which is slower.)
+#[tactic(auto, using(crate::proofs::Answering::answer_out, crate::proofs::Answering::answer_no_work, crate::proofs::Answering::answer_work, crate::proofs::Working::call_placed))]
+#[inline(always)]
+fn planned(
     n: u64,
     size: u64,
-    chip: LargeChip,
     image: &[u8],
     status: &[u8],
-    wanted: &[u8],
-    work: Work,
+    call: Call<'_>,
     failed: &[u8],
-) -> PlanAnswer
-    requires { Sourced chip (length image.now) (length wanted.now) work × Lends n size chip image.now status.now }
-    ensures { result ≡ told_answer chip (failures chip (seen chip image.now status.now) (work_answer chip image.now wanted.now work) failed.now) }
+) -> Result<Plan, Refusal>
+    ensures { result ≡ plan_answer n size (call_of call.entry) image.now status.now failed.now }
 {
-    let first = plan_of(chip, image, wanted, work);
-    retire::after_failures(n, size, image, status, first, failed)
+    let region = Region::lent(n, size, call.beside(), image, status)?;
+    let work = call.work(region)?;
+    let task = Task {
+        region,
+        wanted: call.wanted(),
+        work,
+    };
+    task.plan_after(failed)
 }
 
-// Plans an update of the pair to a wanted bitmap, or goes on with one of which these steps have failed.
+// Plans an update of the pair to a wanted bitmap, or goes on with one of which these steps have failed. (This and the three that follow
+// are one function an entry of C.)
 pub fn update_plan(
     n: u64,
     size: u64,
@@ -205,149 +303,54 @@ pub fn update_plan(
     status: &[u8],
     wanted: &[u8],
     failed: &[u8],
-) -> PlanAnswer
+) -> Result<Plan, Refusal>
     ensures { result ≡ plan_answer n size (for_update wanted.now) image.now status.now failed.now }
 {
-    match region::case_of(n, size, Beside::Bitmap(wanted.len()), image, status) {
-        LentCase::Refused(r) => PlanAnswer::Refused(r),
-        LentCase::Case(chip, c) => {
-            let work = update_work(c);
-            if failed.len() == 0 {
-                return plan_of(chip, image, wanted, work);
-            }
-            plan_after(n, size, chip, image, status, wanted, work, failed)
-        }
-    }
+    planned(n, size, image, status, Call::Update(wanted), failed)
 }
 
 // Plans a recovery of the pair, or goes on with one of which these steps have failed.
-pub fn recovery_plan(n: u64, size: u64, image: &[u8], status: &[u8], failed: &[u8]) -> PlanAnswer
-    ensures { result ≡ plan_answer n size for_recovery image.now status.now failed.now }
-{
-    match region::case_of(n, size, Beside::Nothing, image, status) {
-        LentCase::Refused(r) => PlanAnswer::Refused(r),
-        LentCase::Case(chip, c) => {
-            let work = recovery_work(n, size, image, status, c);
-            let nothing = &image[0..0];
-            if failed.len() == 0 {
-                return plan_of(chip, image, nothing, work);
-            }
-            plan_after(n, size, chip, image, status, nothing, work, failed)
-        }
-    }
-}
-
-// The new table's bytes of page p, put first into `out`; how many there are.
-fn new_part(
-    chip: LargeChip,
-    image: &[u8],
-    wanted: &[u8],
-    work: Work,
-    p: u8,
-    out: &mut [u8],
-) -> usize
-    requires { Sourced chip (length image.now) (length wanted.now) work × (length out.old ≡ 2048) }
-    ensures { (result ≤ 2048) × (take result out.new ≡ chunk p (work_bitmap chip image.now wanted.now work)) }
-{
-    match work {
-        Work::Refused(_) => 0,
-        Work::Keep(_) => 0,
-        Work::Update(b, _) => {
-            let old = region::part(chip, image, b, p);
-            let n = old.len();
-            bitmap::update_into(old, images::chunk_of(wanted, p), &mut out[0..n]);
-            n
-        }
-        Work::Copy(b, _, _) => {
-            let old = region::part(chip, image, b, p);
-            let n = old.len();
-            bits::copy(old, &mut out[0..n]);
-            n
-        }
-        Work::Merge(x, y) => {
-            let old = region::part(chip, image, x, p);
-            let n = old.len();
-            bitmap::and_into(old, region::part(chip, image, y, p), &mut out[0..n]);
-            n
-        }
-    }
-}
-
-// The page image of a step of what was planned for a work.
-fn page_by(
-    chip: LargeChip,
-    image: &[u8],
-    wanted: &[u8],
-    work: Work,
-    answer: PlanAnswer,
-    step: u64,
-    page: &mut [u8],
-) -> ImageAnswer
-    requires { Sourced chip (length image.now) (length wanted.now) work × (length page.old ≡ 2112) }
-    ensures answer { result ≡ image_answer_by (told_image (work_bitmap chip image.now wanted.now work) answer step) }
-    ensures out { page.new ≡ image_after_by (told_image (work_bitmap chip image.now wanted.now work) answer step) page.old }
-{
-    match answer {
-        PlanAnswer::Refused(r) => ImageAnswer::Refused(r),
-        PlanAnswer::Planned(plan) => {
-            let version = plan.version;
-            match plan.step(step) {
-                Step::Erase(_) => ImageAnswer::Refused(Refusal::Range),
-                Step::Zero(_) => ImageAnswer::Refused(Refusal::Range),
-                Step::Past => ImageAnswer::Refused(Refusal::Range),
-                Step::Write(_, p, kind) => {
-                    let n = new_part(chip, image, wanted, work, p, &mut page[0..LargeChip::PAGE]);
-                    images::finish_page(n, kind, version, page);
-                    ImageAnswer::Made
-                }
-            }
-        }
-    }
-}
-
-// The page image of a step of a work's plan, once these steps have failed.
-fn page_of(
+pub fn recovery_plan(
     n: u64,
     size: u64,
-    chip: LargeChip,
     image: &[u8],
     status: &[u8],
-    wanted: &[u8],
-    work: Work,
+    failed: &[u8],
+) -> Result<Plan, Refusal>
+    ensures { result ≡ plan_answer n size for_recovery image.now status.now failed.now }
+{
+    planned(n, size, image, status, Call::Recovery, failed)
+}
+
+// The page image of a step of what is asked for: N and the size are judged, then room for a page, then what else is lent.
+// (A part of both its callers, as `planned` is.)
+#[tactic(auto, using(crate::proofs::Working::call_placed, crate::proofs::Asking::no_room_out_answer, crate::proofs::Asking::no_room_out_after, crate::proofs::Asking::no_room_answer, crate::proofs::Asking::no_room_after, crate::proofs::Asking::page_out_answer, crate::proofs::Asking::page_out_after, crate::proofs::Asking::page_no_work_answer, crate::proofs::Asking::page_no_work_after, crate::proofs::Asking::page_work_answer, crate::proofs::Asking::page_work_after))]
+#[inline(always)]
+fn page_planned(
+    n: u64,
+    size: u64,
+    image: &[u8],
+    status: &[u8],
+    call: Call<'_>,
     failed: &[u8],
     step: u64,
     page: &mut [u8],
-) -> ImageAnswer
-    requires { Sourced chip (length image.now) (length wanted.now) work × Lends n size chip image.now status.now × (length page.old ≡ 2112) }
-    ensures answer { result ≡ image_answer_by (plan_image chip (failures chip (seen chip image.now status.now) (work_answer chip image.now wanted.now work) failed.now) step) }
-    ensures out { page.new ≡ image_after_by (plan_image chip (failures chip (seen chip image.now status.now) (work_answer chip image.now wanted.now work) failed.now) step) page.old }
+) -> Result<(), Refusal>
+    ensures answer { result ≡ image_answer n size (call_of call.entry) image.now status.now failed.now step page.old }
+    ensures out { page.new ≡ image_after n size (call_of call.entry) image.now status.now failed.now step page.old }
 {
-    if failed.len() == 0 {
-        let first = plan_of(chip, image, wanted, work);
-        return page_by(chip, image, wanted, work, first, step, page);
+    if page.len() != LargeChip::PAGE_WITH_OOB {
+        LargeChip::new(n, size)?;
+        return Err(Refusal::Length);
     }
-    let after = plan_after(n, size, chip, image, status, wanted, work, failed);
-    page_by(chip, image, wanted, work, after, step, page)
-}
-
-// The pair's case where room for a page is lent too: N and the region's size are judged, then lengths, then status bytes.
-fn page_case(
-    n: u64,
-    size: u64,
-    beside: Beside,
-    image: &[u8],
-    status: &[u8],
-    room: usize,
-) -> LentCase
-    ensures { result ≡ page_case n size beside image.now status.now room }
-{
-    if room == LargeChip::PAGE_WITH_OOB {
-        return region::case_of(n, size, beside, image, status);
-    }
-    match LargeChip::new(n, size) {
-        ChipAnswer::Refused(r) => LentCase::Refused(r),
-        ChipAnswer::Chip(_) => LentCase::Refused(Refusal::Length),
-    }
+    let region = Region::lent(n, size, call.beside(), image, status)?;
+    let work = call.work(region)?;
+    let task = Task {
+        region,
+        wanted: call.wanted(),
+        work,
+    };
+    task.page(failed, step, page)
 }
 
 // The page image of a step of an update's plan, by the snapshot that the first plan was made from, and the steps that have failed since.
@@ -360,26 +363,20 @@ pub fn update_page(
     failed: &[u8],
     step: u64,
     page: &mut [u8],
-) -> ImageAnswer
+) -> Result<(), Refusal>
     ensures answer { result ≡ image_answer n size (for_update wanted.now) image.now status.now failed.now step page.old }
     ensures out { page.new ≡ image_after n size (for_update wanted.now) image.now status.now failed.now step page.old }
 {
-    match page_case(
+    page_planned(
         n,
         size,
-        Beside::Bitmap(wanted.len()),
         image,
         status,
-        page.len(),
-    ) {
-        LentCase::Refused(r) => ImageAnswer::Refused(r),
-        LentCase::Case(chip, c) => {
-            let work = update_work(c);
-            page_of(
-                n, size, chip, image, status, wanted, work, failed, step, page,
-            )
-        }
-    }
+        Call::Update(wanted),
+        failed,
+        step,
+        page,
+    )
 }
 
 // The page image of a step of a recovery's plan, by the snapshot that the first plan was made from, and the steps that have failed since.
@@ -391,26 +388,9 @@ pub fn recovery_page(
     failed: &[u8],
     step: u64,
     page: &mut [u8],
-) -> ImageAnswer
+) -> Result<(), Refusal>
     ensures answer { result ≡ image_answer n size for_recovery image.now status.now failed.now step page.old }
     ensures out { page.new ≡ image_after n size for_recovery image.now status.now failed.now step page.old }
 {
-    match page_case(n, size, Beside::Nothing, image, status, page.len()) {
-        LentCase::Refused(r) => ImageAnswer::Refused(r),
-        LentCase::Case(chip, c) => {
-            let work = recovery_work(n, size, image, status, c);
-            page_of(
-                n,
-                size,
-                chip,
-                image,
-                status,
-                &image[0..0],
-                work,
-                failed,
-                step,
-                page,
-            )
-        }
-    }
+    page_planned(n, size, image, status, Call::Recovery, failed, step, page)
 }

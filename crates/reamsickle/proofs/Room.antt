@@ -1,5 +1,6 @@
 -- Sixteen steps have room for any plan's: at most 2P + 3 steps, and P is at most 4.
 -- Assumes nothing.
+use Rattle.std.specs.Prelude.{Result, Ok, Err}
 use mathlib.Core.List.{List, [], ◌∷◌}
 use mathlib.Core.Path.{◌≡◌, refl}
 use Prim.Native.Nat.{ℕ, ◌+◌, ◌*◌, ◌≤◌}
@@ -10,12 +11,10 @@ use Rattle.bbt.proofs.ToldSteps.{count_by_lem}
 use Rattle.bbt.specs.Lent.{on_chip, lent_plan}
 use Rattle.bbt.specs.Plans.{Call, Answer, refuse, plan, Job, idle, single, double}
 use Rattle.bbt.specs.Told.{told_shape, told_retired, told_answer, steps_by, retired_first}
-use Rattle.bbt.specs.declared.PlanAnswer.TheVariants.{Refused}
 use Rattle.bbt.specs.declared.Step.{Step}
 use Rattle.chip.specs.Large.{chip_of, pages_of}
-use Rattle.chip.specs.declared.ChipAnswer.{ChipAnswer}
-use Rattle.chip.specs.declared.ChipAnswer.TheVariants.{Chip, Refused as NoChip}
 use Rattle.chip.specs.declared.LargeChip.{LargeChip}
+use Rattle.chip.specs.declared.Refusal.{Refusal}
 use Rattle.plan.specs.Answers.{plan_answer}
 use Rattle.reamsickle.specs.LargeBoundary.{room_of}
 
@@ -37,6 +36,6 @@ plan_room n size call image status failed = go (chip_of n size) refl
     told chip h (refuse r) = omega arith
     told chip h (plan q) = omega (arith, h, one_more chip q.failed (steps_by chip (told_shape q.job)), job-count chip q.job)
 
-    go : (a : ChipAnswer) → chip_of n size ≡ a → room_of (on_chip Refused a (λ chip. told_answer chip (lent_plan chip call image status failed))) ≤ 64
-    go (NoChip r) e = omega arith
-    go (Chip chip) e = told chip (chip_valid n size chip e).few_pages (lent_plan chip call image status failed)
+    go : (a : Result LargeChip Refusal) → chip_of n size ≡ a → room_of (on_chip Err a (λ chip. told_answer chip (lent_plan chip call image status failed))) ≤ 64
+    go (Err r) e = omega arith
+    go (Ok chip) e = told chip (chip_valid n size chip e).few_pages (lent_plan chip call image status failed)

@@ -9,21 +9,16 @@ ghost use Rattle.boot.specs.Answers.{list_after};
 ghost use Rattle.bringup.specs.TablePages.{table_page_after};
 ghost use Rattle.plan.specs.Answers.{plan_answer};
 ghost use Rattle.plan.specs.PageImages.{image_after};
-ghost use Rattle.reamsickle.specs.Boundary.{half_code, half_code_after, write_code, spare_code, spare_fields_after, page_code, page_data_after, page_fields_after, map_code};
-ghost use Rattle.reamsickle.specs.LargeBoundary.{first_code, table_code, plan_code_by, steps_put_by, plan_code, steps_after, room_of, image_code_by, image_code, table_page_code};
+ghost use Rattle.reamsickle.specs.Boundary.{code_by, half_code, half_code_after, write_code, spare_code, spare_fields_after, page_code, page_data_after, page_fields_after, map_code};
+ghost use Rattle.reamsickle.specs.LargeBoundary.{first_code, table_code, plan_code_by, steps_put_by, plan_code, steps_after, room_of, image_code, table_page_code};
 ghost use Rattle.table.specs.Tables.{table_after};
 ghost use Rattle.spare.specs.Writing.{spare_after};
 
-use bbt::PlanAnswer;
-use boot::{Listing, MapAnswer};
-use chip::{ChipAnswer, LargeChip, Refusal, SmallChip};
-use factory::BitmapAnswer;
-use images::ImageAnswer;
-use page::PageAnswer;
-use spare::{SpareAnswer, WriteAnswer};
-use table::TableAnswer;
+use bbt::Plan;
+use boot::{Listing, MapRefusal};
+use chip::{LargeChip, Refusal, SmallChip};
 
-// Bits 0 to 7 of the answer of a call that was not refused.
+// Bits 0 to 7 of the answer of a call that was not refused: a number, as C has it, and so is the next.
 const ANSWERED: u64 = 0;
 
 // The same of the map of the boot blocks where a boot number is out of order.
@@ -37,15 +32,23 @@ const PAGE_FIELDS: usize = SmallChip::FIELDS;
 // The bytes of a plan's steps: sixteen of four.
 const STEPS: usize = 64;
 
+// An answer that tells nothing above the number, as a number.
+fn code_by(answer: Result<(), Refusal>) -> u64
+    ensures { result ≡ code_by answer }
+{
+    match answer {
+        Ok(()) => ANSWERED,
+        Err(r) => packing::refusal_code(r),
+    }
+}
+
 // The code of a half: 256 bytes in, three out.
+#[tactic(auto, using(bits::proofs::Filling::copied_same), unfolding(crate::specs::Boundary::is_half, crate::specs::Boundary::half_code, crate::specs::Boundary::half_code_after))]
 pub fn ream_half_code(half: &[u8], code: &mut [u8]) -> u64
     ensures answer { result ≡ half_code half.now code.old }
     ensures out { code.new ≡ half_code_after half.now code.old }
 {
-    if half.len() != SmallChip::HALF {
-        return packing::refusal_code(Refusal::Length);
-    }
-    if code.len() != SmallChip::CODE {
+    if half.len() != SmallChip::HALF || code.len() != SmallChip::CODE {
         return packing::refusal_code(Refusal::Length);
     }
     let c = ecc::code_of(half);
@@ -55,17 +58,16 @@ pub fn ream_half_code(half: &[u8], code: &mut [u8]) -> u64
 }
 
 // Writes the spare of a page: 512 data bytes, tag, path and count in, sixteen bytes out.
+#[tactic(auto, unfolding(crate::specs::Boundary::write_code))]
 pub fn ream_spare_write(bytes: &[u8], tag: u64, path: u64, count: u64, spare: &mut [u8]) -> u64
     ensures answer { result ≡ write_code bytes.now tag path count spare.old }
     ensures out { spare.new ≡ spare_after bytes.now tag path count spare.old }
 {
-    match spare::write_spare(bytes, tag, path, count, spare) {
-        WriteAnswer::Written => ANSWERED,
-        WriteAnswer::Refused(r) => packing::refusal_code(r),
-    }
+    code_by(spare::write_spare(bytes, tag, path, count, spare))
 }
 
 // Reads a spare: sixteen bytes in, eleven out.
+#[tactic(auto, using(bits::proofs::Filling::copied_same), unfolding(crate::specs::Boundary::spare_code, crate::specs::Boundary::spare_fields_after))]
 pub fn ream_spare_read(spare: &[u8], fields: &mut [u8]) -> u64
     ensures answer { result ≡ spare_code spare.now fields.old }
     ensures out { fields.new ≡ spare_fields_after spare.now fields.old }
@@ -74,16 +76,16 @@ pub fn ream_spare_read(spare: &[u8], fields: &mut [u8]) -> u64
         return packing::refusal_code(Refusal::Length);
     }
     match spare::read_spare(spare) {
-        SpareAnswer::Refused(r) => packing::refusal_code(r),
-        SpareAnswer::Read(f) => {
-            let repaired = f.repaired;
-            packing::put_fields(f, repaired.repairs(), fields);
+        Ok(f) => {
+            packing::put_fields(f, f.repaired.repairs(), fields);
             ANSWERED
         }
+        Err(r) => packing::refusal_code(r),
     }
 }
 
 // Reads a page: 512 data bytes, put right in place where the whole read succeeds, and sixteen spare bytes in; eleven out.
+#[tactic(auto, using(bits::proofs::Filling::copied_same), unfolding(crate::specs::Boundary::page_code, crate::specs::Boundary::page_data_after, crate::specs::Boundary::page_fields_after))]
 pub fn ream_page_read(bytes: &mut [u8], spare: &[u8], fields: &mut [u8]) -> u64
     ensures answer { result ≡ page_code bytes.old spare.now fields.old }
     ensures page { bytes.new ≡ page_data_after bytes.old spare.now fields.old }
@@ -93,75 +95,73 @@ pub fn ream_page_read(bytes: &mut [u8], spare: &[u8], fields: &mut [u8]) -> u64
         return packing::refusal_code(Refusal::Length);
     }
     match page::read_page(bytes, spare) {
-        PageAnswer::Refused(r) => packing::refusal_code(r),
-        PageAnswer::Read(f) => {
-            let told = f.spare;
-            packing::put_fields(told, f.repairs(), fields);
+        Ok(f) => {
+            packing::put_fields(f.spare, f.repairs(), fields);
             ANSWERED
         }
+        Err(r) => packing::refusal_code(r),
     }
 }
 
 // Maps the boot blocks among `number` blocks of the small chip: 32 spare bytes a block in, two lists of two bytes a block out.
+#[tactic(auto, unfolding(crate::specs::Boundary::map_code))]
 pub fn ream_boot_map(number: u64, spares: &[u8], mapped: &mut [u8], erased: &mut [u8]) -> u64
     ensures answer { result ≡ map_code number spares.now mapped.old erased.old }
     ensures mapped { mapped.new ≡ list_after Listing.ToMap number spares.now mapped.old erased.old mapped.old }
     ensures erased { erased.new ≡ list_after Listing.ToErase number spares.now mapped.old erased.old erased.old }
 {
     match boot::boot_map(number, spares, mapped, erased) {
-        MapAnswer::Refused(r) => packing::refusal_code(r),
-        MapAnswer::OutOfOrder(k) => OUT_OF_ORDER + 256 * (k.0 as u64),
-        MapAnswer::Mapped(counts) => {
-            256 * (counts.mapped as u64) + 16777216 * (counts.erased as u64) + ANSWERED
-        }
+        Ok(counts) => 256 * (counts.mapped as u64) + 16777216 * (counts.erased as u64) + ANSWERED,
+        Err(MapRefusal::OutOfOrder(k)) => OUT_OF_ORDER + 256 * (k.0 as u64),
+        Err(MapRefusal::Refused(r)) => packing::refusal_code(r),
     }
 }
 
 // The first bitmap of a chip of n blocks: 2n marks in, n/4 bytes out.
+#[tactic(auto, unfolding(crate::specs::LargeBoundary::first_code))]
 pub fn ream_first_bitmap(n: u64, size: u64, marks: &[u8], bitmap: &mut [u8]) -> u64
     ensures answer { result ≡ first_code n size marks.now bitmap.old }
     ensures out { bitmap.new ≡ first_after n size marks.now bitmap.old }
 {
-    match factory::first_bitmap(n, size, marks, bitmap) {
-        BitmapAnswer::Made => ANSWERED,
-        BitmapAnswer::Refused(r) => packing::refusal_code(r),
-    }
+    code_by(factory::first_bitmap(n, size, marks, bitmap))
 }
 
 // Reads a settled pair: the region image and its status bytes in, the bitmap out.
+#[tactic(auto, unfolding(crate::specs::LargeBoundary::table_code))]
 pub fn ream_table_read(n: u64, size: u64, image: &[u8], status: &[u8], bitmap: &mut [u8]) -> u64
     ensures answer { result ≡ table_code n size image.now status.now bitmap.old }
     ensures out { bitmap.new ≡ table_after n size image.now status.now bitmap.old }
 {
     match table::read_table(n, size, image, status, bitmap) {
-        TableAnswer::Refused(r) => packing::refusal_code(r),
-        TableAnswer::Read(version, primary, mirror) => {
-            256 * (version as u64)
-                + 65536 * ((primary.0 % 65536) as u64)
-                + 4294967296 * ((mirror.0 % 65536) as u64)
+        Ok(pair) => {
+            256 * (pair.version as u64)
+                + 65536 * ((pair.primary.0 % 65536) as u64)
+                + 4294967296 * ((pair.mirror.0 % 65536) as u64)
                 + ANSWERED
         }
+        Err(r) => packing::refusal_code(r),
     }
 }
 
 // Tells what was planned where there is room for sixteen steps.
-fn tell_answer(answer: PlanAnswer, steps: &mut [u8]) -> u64
+#[tactic(auto, using(packing::proofs::Steps::into_room))]
+fn tell_answer(answer: Result<Plan, Refusal>, steps: &mut [u8]) -> u64
     requires { (room_of answer ≤ 64) × (length steps.old ≡ 64) }
     ensures answer { result ≡ plan_code_by answer }
     ensures out { steps.new ≡ steps_put_by answer steps.old }
 {
     match answer {
-        PlanAnswer::Refused(r) => packing::refusal_code(r),
-        PlanAnswer::Planned(plan) => {
-            let version = plan.version;
+        Ok(plan) => {
             packing::put_plan(plan, steps);
-            256 * (version as u64) + 65536 * (plan.step_count() as u64) + ANSWERED
+            256 * (plan.version as u64) + 65536 * (plan.step_count() as u64) + ANSWERED
         }
+        Err(r) => packing::refusal_code(r),
     }
 }
 
 // Tells what was planned, or that there is no room for it: N and the region's size are judged before.
-fn tell_plan(n: u64, size: u64, answer: PlanAnswer, steps: &mut [u8]) -> u64
+#[tactic(auto, unfolding(crate::specs::LargeBoundary::plan_code, crate::specs::LargeBoundary::steps_after))]
+fn tell_plan(n: u64, size: u64, answer: Result<Plan, Refusal>, steps: &mut [u8]) -> u64
     requires { room_of answer ≤ 64 }
     ensures answer { result ≡ plan_code n size answer steps.old }
     ensures out { steps.new ≡ steps_after answer steps.old }
@@ -170,13 +170,14 @@ fn tell_plan(n: u64, size: u64, answer: PlanAnswer, steps: &mut [u8]) -> u64
         return tell_answer(answer, steps);
     }
     match LargeChip::new(n, size) {
-        ChipAnswer::Refused(r) => packing::refusal_code(r),
-        ChipAnswer::Chip(_) => packing::refusal_code(Refusal::Length),
+        Ok(_) => packing::refusal_code(Refusal::Length),
+        Err(r) => packing::refusal_code(r),
     }
 }
 
 // Plans an update, or goes on with one of which steps have failed: the region image, its status bytes, the wanted bitmap and the failed steps'
 // numbers in, up to sixteen steps out.
+#[tactic(auto, using(crate::proofs::Room::plan_room))]
 pub fn ream_update_plan(
     n: u64,
     size: u64,
@@ -199,6 +200,7 @@ pub fn ream_update_plan(
 
 // Plans a recovery, or goes on with one of which steps have failed: the region image, its status bytes and the failed steps' numbers in, up to
 // sixteen steps out.
+#[tactic(auto, using(crate::proofs::Room::plan_room))]
 pub fn ream_recovery_plan(
     n: u64,
     size: u64,
@@ -218,17 +220,8 @@ pub fn ream_recovery_plan(
     )
 }
 
-// What asking for a page image answered, as a number.
-fn image_code(answer: ImageAnswer) -> u64
-    ensures { result ≡ image_code_by answer }
-{
-    match answer {
-        ImageAnswer::Made => ANSWERED,
-        ImageAnswer::Refused(r) => packing::refusal_code(r),
-    }
-}
-
 // The page image of a step of an update's plan: what the plan was made from, the failed steps' numbers and the step's number in, 2,112 bytes out.
+#[tactic(auto, unfolding(crate::specs::LargeBoundary::image_code))]
 pub fn ream_update_page(
     n: u64,
     size: u64,
@@ -242,10 +235,11 @@ pub fn ream_update_page(
     ensures answer { result ≡ image_code n size (for_update wanted.now) image.now status.now failed.now step page.old }
     ensures out { page.new ≡ image_after n size (for_update wanted.now) image.now status.now failed.now step page.old }
 {
-    image_code(plan::update_page(n, size, image, status, wanted, failed, step, page))
+    code_by(plan::update_page(n, size, image, status, wanted, failed, step, page))
 }
 
 // The page image of a step of a recovery's plan: what the plan was made from, the failed steps' numbers and the step's number in, 2,112 bytes out.
+#[tactic(auto, unfolding(crate::specs::LargeBoundary::image_code))]
 pub fn ream_recovery_page(
     n: u64,
     size: u64,
@@ -258,10 +252,11 @@ pub fn ream_recovery_page(
     ensures answer { result ≡ image_code n size for_recovery image.now status.now failed.now step page.old }
     ensures out { page.new ≡ image_after n size for_recovery image.now status.now failed.now step page.old }
 {
-    image_code(plan::recovery_page(n, size, image, status, failed, step, page))
+    code_by(plan::recovery_page(n, size, image, status, failed, step, page))
 }
 
 // A page of a copy of any table: a bitmap, the copy's kind and version and the page's number in, 2,112 bytes out.
+#[tactic(auto, unfolding(crate::specs::LargeBoundary::table_page_code))]
 pub fn ream_table_page(
     n: u64,
     size: u64,
@@ -274,5 +269,5 @@ pub fn ream_table_page(
     ensures answer { result ≡ table_page_code n size bitmap.now kind version number page.old }
     ensures out { page.new ≡ table_page_after n size bitmap.now kind version number page.old }
 {
-    image_code(bringup::table_page(n, size, bitmap, kind, version, number, page))
+    code_by(bringup::table_page(n, size, bitmap, kind, version, number, page))
 }

@@ -10,7 +10,7 @@ ghost use Rattle.bringup.specs.TablePages.{table_page_after};
 ghost use Rattle.plan.specs.Answers.{plan_answer};
 ghost use Rattle.plan.specs.PageImages.{image_after};
 ghost use Rattle.reamsickle.specs.Boundary.{half_code, half_code_after, write_code, spare_code, spare_fields_after, page_code, page_data_after, page_fields_after, map_code};
-ghost use Rattle.reamsickle.specs.LargeBoundary.{first_code, table_code, plan_code_by, steps_put_by, plan_code, steps_after, room_of, image_code_by, image_code, table_page_code};
+ghost use Rattle.reamsickle.specs.LargeBoundary.{first_code, table_code, plan_code_by, steps_put_by, plan_code, steps_after, room_of, image_code, table_page_code};
 ghost use Rattle.table.specs.Tables.{table_after};
 ghost use Rattle.spare.specs.Writing.{spare_after};
 

@@ -1,13 +1,11 @@
 -- An array of flags beside a list of blocks: where they agree on the region's blocks, the target by the flags is the target of the rules.
 -- Assumes nothing.
-use mathlib.Core.Bool.{Bool, true, false, not, ◌&&◌, ◌||◌}
+use mathlib.Core.Bool.{Bool, true, false, not, ◌&&◌}
 use mathlib.Core.List.{List, [], ◌∷◌}
-use mathlib.Core.Path.{◌≡◌, refl, ap, ◌∙◌}
+use mathlib.Core.Path.{◌≡◌, ap}
 use Prim.Native.Nat.{ℕ, ◌≤◌}
 use native.Mathlib.Omega.{arith}
-use borrow.Author.Tests.{eqb-true, eqb-false}
-use lib.Dec.{eqb}
-use lib.ListN.{length, get_or, set, replicate, get_or-replicate}
+use lib.ListN.{length, set, replicate, get_or-replicate}
 use lib.Seq.{get_or-set_same, get_or-set_other}
 use Rattle.bbt.specs.Copies.{reads_bad}
 use Rattle.bbt.specs.Pages.{View}
@@ -32,8 +30,4 @@ flags_none b h = get_or-replicate 7 b false false h
 -- one block more; one past the array has no flag
 pub flags_more : (avoid : List Bool) (blocks : List ℕ) (b : ℕ) → length avoid ≡ 7 → Flags avoid blocks → Flags (set avoid b true) (b ∷ blocks)
 unfolding member
-flags_more avoid blocks b e flags i h = go (eqb i b) refl
-  where
-    go : (t : Bool) → eqb i b ≡ t → get_or (set avoid b true) i false ≡ (t || member i blocks)
-    go true a = let same : i ≡ b = eqb-true i b a in rw same (get_or-set_same avoid b true false (omega arith))
-    go false a = get_or-set_other avoid b i true false (eqb-false i b a) ∙ flags i h
+flags_more avoid blocks b e flags i h = grind (arith, get_or-set_same {A = Bool}, get_or-set_other {A = Bool}, flags i h)

@@ -1,6 +1,7 @@
 pub mod Stored
-pub mod Bytes
+pub mod Asked
 pub mod Locating
+pub mod Lending
 pub mod Bitmaps
 pub mod Judged
 pub mod Flagging

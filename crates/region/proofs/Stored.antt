@@ -2,22 +2,21 @@
 -- good block, a block readable as bad, and the table of a good block. A page that marks its block as bad has neither signature, so it fails
 -- as a page of a copy either way.
 -- Assumes nothing.
-use mathlib.Core.Bool.{Bool, true, false, ◌&&◌, ◌||◌, true≢false, false≢true}
+use mathlib.Core.Bool.{Bool, true, false}
 use mathlib.Core.List.{List, ◌++◌}
 use mathlib.Core.Path.{◌≡◌, refl, sym, ap, ap₂, ◌∙◌}
 use Prim.Native.Nat.{ℕ, zero, suc, ◌+◌, ◌*◌, ◌<◌, ◌≤◌}
 use native.Mathlib.Nat.{add-zero}
 use native.Mathlib.Numerals.{add-one}
 use native.Mathlib.Omega.{arith}
-use borrow.Author.Tests.{eqb-true, eq-eqb}
+use borrow.Author.Tests.{eqb-true}
 use lib.Dec.{eqb}
 use lib.ListN.{take, drop, get_or}
 use lib.Seq.{take-take}
-use Rattle.bits.proofs.Both.{both_left, both_right}
 use Rattle.bbt.specs.Copies.{page_version, page_part, is_page, is_marked, good, reads_bad, parts, table}
 use Rattle.bbt.specs.Pages.{all, same_kind, page_status, page_bytes, kind_of_word, kind_of, version_of, part_length, reads, bad_mark, zero_oob, bad_page, page_of, View, seen}
 use Rattle.bbt.specs.declared.Kind.{Kind}
-use Rattle.bbt.specs.declared.Kind.TheVariants.{Primary, Mirror, Neither}
+use Rattle.bbt.specs.declared.Kind.TheVariants.{Neither}
 use Rattle.bbt.proofs.Searches.{all_at, all_not, all_cong}
 use Rattle.chip.specs.Large.{pages_of}
 use Rattle.chip.specs.declared.LargeChip.{LargeChip}
@@ -30,20 +29,9 @@ unfolding page_bytes
 page_take image i m h = take-take m 2112 (drop (i * 2112) image) h
 
 -- ---- a page of a copy
--- the two kinds of a copy
-pub primary_signed : same_kind Primary Neither ≡ false
-unfolding same_kind
-primary_signed = refl
-
-pub mirror_signed : same_kind Mirror Neither ≡ false
-unfolding same_kind
-mirror_signed = refl
-
 neither_is : (k : Kind) → same_kind k Neither ≡ true → k ≡ Neither
 unfolding same_kind
-neither_is Primary e = absurd (false≢true e)
-neither_is Mirror e = absurd (false≢true e)
-neither_is Neither e = refl
+neither_is k e = grind arith
 
 -- 64 zero OOB bytes spell neither signature
 zero_neither : (l : List ℕ) → zero_oob l ≡ true → kind_of l ≡ Neither
@@ -55,58 +43,26 @@ zero_neither l h =
 
 bad_neither : (p s : ℕ) (l : List ℕ) → bad_page p s l ≡ true → kind_of l ≡ Neither
 unfolding bad_page bad_mark
-bad_neither p s l h = go (bad_mark s l) refl (both_right (eqb p 0) (bad_mark s l || zero_oob l) h)
-  where
-    neither : Bool
-    neither = same_kind (kind_of l) Neither
-
-    zeroed : Bool
-    zeroed = eqb (get_or l 2048 0) 0
-
-    go : (t : Bool) → bad_mark s l ≡ t → (t || zero_oob l) ≡ true → kind_of l ≡ Neither
-    go true a e = neither_is (kind_of l) (both_left neither zeroed (both_right (eqb s 0) (neither && zeroed) a))
-    go false a e = zero_neither l e
+bad_neither p s l h = grind (arith, neither_is, zero_neither)
 
 page_raw : (chip : LargeChip) (k : Kind) (v p s : ℕ) (l : List ℕ) → same_kind k Neither ≡ false → is_page k v (page_of chip p s l) ≡ page_matches k v s l
 unfolding page_of is_page page_matches
-page_raw chip k v p s l signed = go (bad_page p s l) refl (eqb s 0) refl
-  where
-    go : (x : Bool) → bad_page p s l ≡ x → (y : Bool) → eqb s 0 ≡ y → is_page k v (page_of chip p s l) ≡ page_matches k v s l
-    go true a true b = rw (a, b, bad_neither p s l a, signed)
-    go true a false b = rw (a, b)
-    go false a true b = rw (a, b)
-    go false a false b = rw (a, b)
+page_raw chip k v p s l signed = grind (arith, bad_neither)
 
 -- a page that passes reads with what its bytes say
 page_reads : (chip : LargeChip) (k : Kind) (v p s : ℕ) (l : List ℕ) → is_page k v (page_of chip p s l) ≡ true
     → page_of chip p s l ≡ reads (kind_of l) (version_of l) (take (part_length chip p) l)
 unfolding page_of is_page
-page_reads chip k v p s l h = go (bad_page p s l) refl (eqb s 0) refl
-  where
-    go : (x : Bool) → bad_page p s l ≡ x → (y : Bool) → eqb s 0 ≡ y
-        → page_of chip p s l ≡ reads (kind_of l) (version_of l) (take (part_length chip p) l)
-    go true a y b = absurd (false≢true (sym (rw a) ∙ h))
-    go false a true b = rw (a, b)
-    go false a false b = absurd (false≢true (sym (rw (a, b)) ∙ h))
+page_reads chip k v p s l h = grind arith
 
 -- one that fails by its own version fails by any
 raw_any : (k : Kind) (v s : ℕ) (l : List ℕ) → page_matches k (version_of l) s l ≡ false → page_matches k v s l ≡ false
 unfolding page_matches
-raw_any k v s l h = go (eqb s 0) refl (same_kind k (kind_of l)) refl
-  where
-    go : (x : Bool) → eqb s 0 ≡ x → (y : Bool) → same_kind k (kind_of l) ≡ y → page_matches k v s l ≡ false
-    go false a y b = rw a
-    go true a false b = rw (a, b)
-    go true a true b = absurd (true≢false (sym (rw (a, b, eq-eqb (version_of l) (version_of l) refl)) ∙ h))
+raw_any k v s l h = grind arith
 
 marked_raw : (chip : LargeChip) (s : ℕ) (l : List ℕ) → is_marked (page_of chip 0 s l) ≡ bad_page 0 s l
 unfolding page_of is_marked
-marked_raw chip s l = go (bad_page 0 s l) refl (eqb s 0) refl
-  where
-    go : (x : Bool) → bad_page 0 s l ≡ x → (y : Bool) → eqb s 0 ≡ y → is_marked (page_of chip 0 s l) ≡ bad_page 0 s l
-    go true a y b = rw a
-    go false a true b = rw (a, b)
-    go false a false b = rw (a, b)
+marked_raw chip s l = grind arith
 
 pub stored_parts_next : (chip : LargeChip) (image : List ℕ) (b n : ℕ)
     → stored_parts chip image b (n + 1) ≡ stored_parts chip image b n ++ take (part_length chip n) (page_bytes image (b * pages_of chip + n))
@@ -157,14 +113,8 @@ module _ (chip : LargeChip) (image status : List ℕ) (b : ℕ) where
             all_cong (pages_of chip) (λ p. is_page k (page_version (R b 0)) (R b p)) (λ p. raw v₀ p)
             (λ p h. ap (λ (v : ℕ). is_page k v (R b p)) (first_version k v₀ (each v₀ 0 ∙ a)) ∙ each v₀ p)
         go false a =
-            all_not (pages_of chip) (λ p. is_page k (page_version (R b 0)) (R b p)) 0 pos (each (page_version (R b 0)) 0 ∙ fails (page_version (R b 0)))
+            all_not (pages_of chip) (λ p. is_page k (page_version (R b 0)) (R b p)) 0 pos (each (page_version (R b 0)) 0 ∙ grind (arith, raw_any))
             ∙ sym (all_not (pages_of chip) (λ p. raw v₀ p) 0 pos a)
-          where
-            i : b * pages_of chip + 0 ≡ b * pages_of chip
-            i = add-zero (b * pages_of chip)
-
-            fails : (v : ℕ) → raw v 0 ≡ false
-            fails v = raw_any k v (page_status status (b * pages_of chip + 0)) (page_bytes image (b * pages_of chip + 0)) (rw i (rw i at a))
 
     -- the table of a good block
     pub table_raw : good (pages_of chip) (seen chip image status) k b ≡ true → table (pages_of chip) (seen chip image status) b

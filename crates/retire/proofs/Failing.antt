@@ -1,21 +1,21 @@
 -- A told plan when its steps fail: what the code makes of it by a step that fails, and step after step, is what the rules make of the plan.
 -- Assumes nothing.
+use Rattle.std.specs.Prelude.{Option, Some, None}
 use mathlib.Core.Bool.{Bool, false}
 use mathlib.Core.List.{List, [], ◌∷◌}
-use mathlib.Core.Option.{Option, none, some}
+use mathlib.Core.Option.{Option as Search, none, some}
 use mathlib.Core.Path.{◌≡◌, refl, sym, ap, subst, ◌∙◌}
 use Prim.Native.Nat.{ℕ}
 use lib.ListN.{length, replicate, length-set}
 use Rattle.chip.specs.Large.{pages_of}
 use Rattle.chip.specs.declared.LargeChip.{LargeChip}
 use Rattle.chip.specs.declared.Refusal.{Refusal}
+use Rattle.chip.specs.declared.RegionBlock.{RegionBlock}
 use Rattle.bbt.proofs.ToldSteps.{tells_steps}
 use Rattle.bbt.specs.Failures.{moved_to, block_fails, step_fails, failure, failures, other_block}
 use Rattle.bbt.specs.Pages.{View, seen}
 use Rattle.bbt.specs.Plans.{Step, erase, write, zeros, Plan, steps_of, step_at, Answer, refuse, plan, target}
 use Rattle.bbt.specs.Told.{chip_block, told_shape, told_retired, told_plan, told_answer, told_steps, nth_step}
-use Rattle.bbt.specs.declared.Retired.{Retired}
-use Rattle.bbt.specs.declared.Retired.TheVariants.{Nothing, Block}
 use Rattle.bbt.specs.declared.Step.{Step as ToldStep}
 use Rattle.region.proofs.Flagging.{flags_none, flags_more}
 use Rattle.region.specs.Targets.{Flags}
@@ -27,12 +27,12 @@ abbrev Flagged : List Bool → Answer → Type 0
 Flagged gone (refuse x) = Unit {0}
 Flagged gone (plan q) = Flags (also_retired gone (told_retired q.failed)) q.failed
 
-moved_flagged : (gone : List Bool) (q : Plan) (b : ℕ) (t : Option ℕ) → length gone ≡ 7 → Flags gone q.failed → Flagged gone (moved_to q b t)
+moved_flagged : (gone : List Bool) (q : Plan) (b : ℕ) (t : Search ℕ) → length gone ≡ 7 → Flags gone q.failed → Flagged gone (moved_to q b t)
 unfolding moved_to
 moved_flagged gone q b none e flags = tt
 moved_flagged gone q b (some x) e flags = flags_more gone q.failed b e flags
 
-failed_flagged : (chip : LargeChip) (R : View) (gone : List Bool) (q : Plan) (s : Option Step) → length gone ≡ 7 → Flags gone q.failed
+failed_flagged : (chip : LargeChip) (R : View) (gone : List Bool) (q : Plan) (s : Search Step) → length gone ≡ 7 → Flags gone q.failed
     → Flagged gone (step_fails chip R q s)
 unfolding step_fails block_fails
 failed_flagged chip R gone q none e flags = tt
@@ -40,12 +40,12 @@ failed_flagged chip R gone q (some (erase b)) e flags = moved_flagged gone q b _
 failed_flagged chip R gone q (some (write b p k t)) e flags = moved_flagged gone q b _ e flags
 failed_flagged chip R gone q (some (zeros b)) e flags = tt
 
-still_seven : (gone : List Bool) (r : Retired) → length gone ≡ 7 → length (also_retired gone r) ≡ 7
-still_seven gone Nothing e = e
-still_seven gone (Block b) e = simp length-set e
+still_seven : (gone : List Bool) (r : Option RegionBlock) → length gone ≡ 7 → length (also_retired gone r) ≡ 7
+still_seven gone None e = e
+still_seven gone (Some b) e = simp length-set e
 
 -- ---- a refusal is passed on
-refused_on : (chip : LargeChip) (R : View) (x : Refusal) (rest : List ℕ) → failures chip R (refuse x) rest ≡ refuse x
+pub refused_on : (chip : LargeChip) (R : View) (x : Refusal) (rest : List ℕ) → failures chip R (refuse x) rest ≡ refuse x
 unfolding failures failure
 refused_on chip R x [] = refl
 refused_on chip R x (k ∷ rest) = refused_on chip R x rest
@@ -72,7 +72,7 @@ module _ {n size : ℕ} {chip : LargeChip} {image status : List ℕ} (lends : Le
       is : nth_step (told_steps (told_plan chip q)) k ≡ told_maybe chip (step_at (steps_of (pages_of chip) q) k)
       is = ap (λ (es : List ToldStep). nth_step es k) (tells_steps chip q) ∙ nth_told chip (steps_of (pages_of chip) q) k
 
-      go : (s : Option Step) → Of q.job s
+      go : (s : Search Step) → Of q.job s
           → step_retired n size image status gone (told_plan chip q) (told_maybe chip s) ≡ told_answer chip (step_fails chip R q s)
       go none w = refl
       go (some (erase b)) w = block_retired gone q b e flags w

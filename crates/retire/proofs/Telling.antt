@@ -1,10 +1,11 @@
 -- What is told of a plan when a block fails under it: the copy that goes there, the plan with that copy at another block, and the target of a
 -- lent region; and the step of a number, which is of a block that the plan writes to unless it is the zero step.
 -- Assumes nothing.
+use Rattle.std.specs.Prelude.{Option, Some, None, Result, Ok}
 use mathlib.Core.Bool.{Bool, true, false, cond}
 use mathlib.Core.List.{List, [], ◌∷◌, map}
 use mathlib.Core.Logic.{◌⊎◌, inl, inr, ⊎_elim}
-use mathlib.Core.Option.{Option, none, some}
+use mathlib.Core.Option.{Option as Search, none, some}
 use mathlib.Core.Path.{◌≡◌, refl, ap, sym}
 use Prim.Native.Nat.{ℕ, zero, suc, ◌+◌, ◌<◌, ◌≤◌}
 use native.Mathlib.Numerals.{add-one}
@@ -23,15 +24,13 @@ use Rattle.bbt.specs.Told.{region_block, chip_block, told_shape, told_plan, told
 use Rattle.bbt.specs.declared.Kind.{Kind}
 use Rattle.bbt.specs.declared.Kind.TheVariants.{Mirror}
 use Rattle.bbt.specs.declared.Plan.{Plan as ToldPlan}
-use Rattle.bbt.specs.declared.PlanAnswer.{PlanAnswer}
-use Rattle.bbt.specs.declared.PlanAnswer.TheVariants.{Planned}
+use Rattle.chip.specs.declared.Refusal.{Refusal}
+use Rattle.chip.specs.declared.RegionBlock.{RegionBlock}
 use Rattle.bbt.specs.declared.Shape.TheVariants.{One, Both}
 use Rattle.bbt.specs.declared.Step.{Step as ToldStep}
-use Rattle.bbt.specs.declared.Step.TheVariants.{Past}
 use Rattle.bbt.proofs.Raw.{chip_valid}
 use Rattle.region.proofs.Flagging.{target_flags, flags_more}
 use Rattle.region.specs.Targets.{Flags, told_target, target_on, lent_target}
-use Rattle.region.specs.declared.TargetAnswer.{TargetAnswer}
 use Rattle.retire.specs.Retiring.{copy_at, moved_shape, also_retired, answer_by, copy_retired, step_retired, on_plan, steps_retired, Lends}
 use Rattle.retire.specs.declared.Copy.{Copy}
 
@@ -88,14 +87,14 @@ moved_version (double p m t) b x = go (eqb b p)
     go false = refl
 
 -- the plan made anew, by the target
-pub answer_told : (chip : LargeChip) (q : Plan) (b : ℕ) (t : Option ℕ)
-    → answer_by (told_plan chip q) (region_block b) (told_target t) ≡ told_answer chip (moved_to q b t)
+pub answer_told : (chip : LargeChip) (q : Plan) (b : ℕ) (t : Search ℕ)
+    → answer_by (told_plan chip q) (region_block b) (Ok (told_target t)) ≡ told_answer chip (moved_to q b t)
 unfolding moved_to
 answer_told chip q b none = refl
 answer_told chip q b (some x) = rw (moved_told q.job b x, moved_version q.job b x) refl
 
 -- as the code comes to it: the copy, the flags with one block more and with another, the target
-pub as-told : (n size : ℕ) (image status : List ℕ) (gone : List Bool) (told : ToldPlan) (c : ChipBlock) (copy : Copy) (more avoid : List Bool) (t : TargetAnswer)
+pub as-told : (n size : ℕ) (image status : List ℕ) (gone : List Bool) (told : ToldPlan) (c : ChipBlock) (copy : Copy) (more avoid : List Bool) (t : Result (Option RegionBlock) Refusal)
     → copy ≡ copy_at told.chip told.shape c → more ≡ set gone copy.block.0 true → avoid ≡ set more copy.other.0 true
     → t ≡ lent_target n size image status avoid
     → answer_by told copy.block t ≡ copy_retired n size image status gone told (copy_at told.chip told.shape c)
@@ -103,31 +102,31 @@ as-told n size image status gone told c copy more avoid t the_copy one two the-t
 
 -- step after step: the steps from number i of the list on, and none
 module _ (n size : ℕ) (image status : List ℕ) (gone : List Bool) (told : ToldPlan) (failed : List ℕ) (i : ℕ) where
-  pub next_step : (r a : PlanAnswer) → i < length failed → r ≡ step_retired n size image status gone told (nth_step (told_steps told) (get_or failed i 0)) → r ≡ a
+  pub next_step : (r a : Result ToldPlan Refusal) → i < length failed → r ≡ step_retired n size image status gone told (nth_step (told_steps told) (get_or failed i 0)) → r ≡ a
       → steps_retired n size image status gone told (drop i failed)
       ≡ on_plan (λ next. steps_retired n size image status (also_retired gone next.retired) next (drop (i + 1) failed)) a
   unfolding steps_retired
   next_step r a h e f = rw (drop-cons failed i 0, sym e, f, add-one i) refl
 
-  pub none_left : length failed ≤ i → steps_retired n size image status gone told (drop i failed) ≡ Planned told
+  pub none_left : length failed ≤ i → steps_retired n size image status gone told (drop i failed) ≡ Ok told
   unfolding steps_retired
   none_left h = rw (drop_of_length-le failed h) refl
 
 -- ---- the target of a lent region, by the flags of the blocks that have failed
 pub target_lent : {n size : ℕ} {chip : LargeChip} {image status : List ℕ} → Lends n size chip image status
     → (gone : List Bool) (blocks : List ℕ) (b o : ℕ) → length gone ≡ 7 → Flags gone blocks
-    → lent_target n size image status (set (set gone b true) o true) ≡ told_target (target chip (seen chip image status) (o ∷ b ∷ blocks))
+    → lent_target n size image status (set (set gone b true) o true) ≡ Ok (told_target (target chip (seen chip image status) (o ∷ b ∷ blocks)))
 unfolding lent_target target_on
 target_lent {n} {size} {chip} {image} {status} l gone blocks b o e flags =
     let v = chip_valid n size chip l.the_chip in
     let one = flags_more gone blocks b e flags in
     let two = flags_more (set gone b true) (b ∷ blocks) o (simp length-set e) one in
-    rw (l.the_chip, l.region_right, l.statuses-right) (ap told_target (target_flags chip (seen chip image status) _ _ (omega arith) two))
+    rw (l.the_chip, l.region_right, l.statuses-right) (ap (λ (t : Search ℕ). Ok (told_target t)) (target_flags chip (seen chip image status) _ _ (omega arith) two))
 
 -- ---- a step of a plan, as it is told
-abbrev pub told_maybe : LargeChip → Option Step → ToldStep
-told_maybe chip none = Past
-told_maybe chip (some e) = told_step chip e
+abbrev pub told_maybe : LargeChip → Search Step → Option ToldStep
+told_maybe chip none = None
+told_maybe chip (some e) = Some (told_step chip e)
 
 pub nth_told : (chip : LargeChip) (es : List Step) (k : ℕ) → nth_step (map (told_step chip) es) k ≡ told_maybe chip (step_at es k)
 unfolding nth_step step_at
@@ -136,7 +135,7 @@ nth_told chip (e ∷ es) zero = refl
 nth_told chip (e ∷ es) (suc k) = nth_told chip es k
 
 -- each step but the zero step is of a block that the plan writes to
-abbrev pub Of : Job → Option Step → Type 0
+abbrev pub Of : Job → Search Step → Type 0
 Of j none = Unit {0}
 Of j (some (erase b)) = WritesTo j b
 Of j (some (write b p k t)) = WritesTo j b

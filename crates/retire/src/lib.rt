@@ -6,9 +6,8 @@ ghost use Rattle.std.specs.Prelude.{false, ◌≡◌, replicate};
 ghost use Rattle.bbt.specs.Told.{told_steps, nth_step};
 ghost use Rattle.retire.specs.Retiring.{copy_at, moved_shape, also_retired, copy_retired, step_retired, steps_retired, all_retired};
 
-use bbt::{Kind, Plan, PlanAnswer, Retired, Shape, Step};
+use bbt::{Kind, Plan, Shape, Step};
 use chip::{ChipBlock, LargeChip, Refusal, RegionBlock};
-use region::TargetAnswer;
 
 // A copy of a plan: its block, and the other copy's, where that stands or will be written.
 #[derive(Clone, Copy)]
@@ -31,7 +30,7 @@ fn copy_at(chip: LargeChip, shape: Shape, c: ChipBlock) -> Copy
             other: other,
         },
         Shape::Both(primary, mirror) => {
-            if bbt::chip_block(chip, primary).0 == c.0 {
+            if bbt::chip_block(chip, primary) == c {
                 return Copy {
                     block: primary,
                     other: mirror,
@@ -53,7 +52,7 @@ fn moved(shape: Shape, b: RegionBlock, x: RegionBlock) -> Shape
         Shape::Empty => Shape::Empty,
         Shape::One(kind, _, other) => Shape::One(kind, x, other),
         Shape::Both(primary, mirror) => {
-            if b.0 == primary.0 {
+            if b == primary {
                 return Shape::Both(x, mirror);
             }
             Shape::One(Kind::Mirror, x, primary)
@@ -71,25 +70,20 @@ fn retire(
     gone: [bool; LargeChip::REGION_PLACES],
     plan: Plan,
     c: ChipBlock,
-) -> PlanAnswer
+) -> Result<Plan, Refusal>
     ensures { result ≡ copy_retired n size image.now status.now gone plan (copy_at plan.chip plan.shape c) }
 {
-    let chip = plan.chip;
-    let version = plan.version;
-    let shape = plan.shape;
-    let copy = copy_at(chip, shape, c);
+    let copy = copy_at(plan.chip, plan.shape, c);
     let block = copy.block;
     let avoid = region::avoiding(region::avoiding(gone, block), copy.other);
-    match region::find_target(n, size, image, status, avoid) {
-        TargetAnswer::Refused(r) => PlanAnswer::Refused(r),
-        TargetAnswer::Missing => PlanAnswer::Refused(Refusal::NoTarget),
-        TargetAnswer::Found(x) => PlanAnswer::Planned(Plan {
-            chip: chip,
-            version: version,
-            retired: Retired::Block(block),
-            shape: moved(shape, block, x),
-        }),
-    }
+    let Some(target) = region::find_target(n, size, image, status, avoid)? else {
+        return Err(Refusal::NoTarget);
+    };
+    Ok(Plan {
+        retired: Some(block),
+        shape: moved(plan.shape, block, target),
+        ..plan
+    })
 }
 
 // The plan once its step k has failed, beside the blocks that failed before.
@@ -101,31 +95,32 @@ fn fail(
     gone: [bool; LargeChip::REGION_PLACES],
     plan: Plan,
     k: u64,
-) -> PlanAnswer
+) -> Result<Plan, Refusal>
     ensures { result ≡ step_retired n size image.now status.now gone plan (nth_step (told_steps plan) k) }
 {
     match plan.step(k) {
-        Step::Erase(c) => retire(n, size, image, status, gone, plan, c),
-        Step::Write(c, _, _) => retire(n, size, image, status, gone, plan, c),
-        Step::Zero(_) => PlanAnswer::Refused(Refusal::ZeroFailed),
-        Step::Past => PlanAnswer::Refused(Refusal::Range),
+        Some(Step::Erase(c)) => retire(n, size, image, status, gone, plan, c),
+        Some(Step::Write(c, _, _)) => retire(n, size, image, status, gone, plan, c),
+        Some(Step::Zero(_)) => Err(Refusal::ZeroFailed),
+        None => Err(Refusal::Range),
     }
 }
 
 // The blocks that have failed, with the one that a plan retires.
 fn with_retired(
     gone: [bool; LargeChip::REGION_PLACES],
-    retired: Retired,
+    retired: Option<RegionBlock>,
 ) -> [bool; LargeChip::REGION_PLACES]
     ensures { result ≡ also_retired gone retired }
 {
     match retired {
-        Retired::Nothing => gone,
-        Retired::Block(b) => region::avoiding(gone, b),
+        None => gone,
+        Some(b) => region::avoiding(gone, b),
     }
 }
 
 // What is planned once these steps of a plan have failed, oldest first, each told in the plan as it stood after the failures before it.
+#[tactic(auto, using(crate::proofs::Telling::next_step, crate::proofs::Telling::none_left))]
 fn after_steps(
     n: u64,
     size: u64,
@@ -133,42 +128,30 @@ fn after_steps(
     status: &[u8],
     first: Plan,
     failed: &[u8],
-) -> PlanAnswer
+) -> Result<Plan, Refusal>
     ensures { result ≡ steps_retired n size image.now status.now (replicate 7 false) first failed.now }
 {
     let mut plan = first;
     let mut gone = [false; LargeChip::REGION_PLACES];
-    let mut i: usize = 0;
-    while i < failed.len() {
-        match fail(n, size, image, status, gone, plan, failed[i] as u64) {
-            PlanAnswer::Refused(r) => {
-                return PlanAnswer::Refused(r);
-            }
-            PlanAnswer::Planned(next) => {
-                let retired = next.retired;
-                let more = with_retired(gone, retired);
-                gone = more;
-                plan = next;
-            }
-        }
-        i += 1;
+    for k in failed {
+        plan = fail(n, size, image, status, gone, plan, u64::from(*k))?;
+        let more = with_retired(gone, plan.retired);
+        gone = more;
     }
-    PlanAnswer::Planned(plan)
+    Ok(plan)
 }
 
 // The same of an answer: a refusal is passed on.
+#[tactic(auto, unfolding(crate::specs::Retiring::all_retired))]
 pub fn after_failures(
     n: u64,
     size: u64,
     image: &[u8],
     status: &[u8],
-    answer: PlanAnswer,
+    answer: Result<Plan, Refusal>,
     failed: &[u8],
-) -> PlanAnswer
+) -> Result<Plan, Refusal>
     ensures { result ≡ all_retired n size image.now status.now answer failed.now }
 {
-    match answer {
-        PlanAnswer::Refused(r) => PlanAnswer::Refused(r),
-        PlanAnswer::Planned(plan) => after_steps(n, size, image, status, plan, failed),
-    }
+    after_steps(n, size, image, status, answer?, failed)
 }

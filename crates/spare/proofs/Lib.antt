@@ -1,3 +1,4 @@
+pub mod Erased
 pub mod Tagging
 pub mod NearestTags
 pub mod Writables

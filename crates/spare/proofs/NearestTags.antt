@@ -10,13 +10,14 @@ use lib.Count.{ones, ones_in}
 use lib.Dec.{T, eqb, leb}
 use Rattle.bits.proofs.Both.{both_left, both_right}
 use Rattle.bits.proofs.Computed.{all, below, true_of}
-use Rattle.spare.specs.declared.NearestTag.TheVariants.{Found}
+use Rattle.std.specs.Prelude.{Some}
+use Rattle.std.specs.Option.{option_eq}
 use Rattle.spare.specs.Tags.{tags, distance, nearest, is_in, apart_from, all_apart, is_found, bytes_found, TagTable}
-use Rattle.spare.proofs.Tagging.{is_itself, found_itself, itself}
+use Rattle.spare.proofs.Tagging.{found_itself, itself}
 
 -- where u is near b, it is what b stands for
 abbrev near_is : ℕ → ℕ → Bool
-near_is b u = cond (leb (distance u b) 1) (is_itself u (nearest tags b)) true
+near_is b u = cond (leb (distance u b) 1) (option_eq eqb (nearest tags b) (Some u)) true
 
 -- so for each u of a list
 all_near : List ℕ → ℕ → Bool
@@ -37,12 +38,12 @@ near_in t b (u ∷ us) e a = go (eqb u t) refl (near_in t b us)
     go true q rest = rw (← (eqb-true u t q)) (both_left (near_is b u) (all_near us b) a)
     go false q rest = rest (rw q at e) (both_right (near_is b u) (all_near us b) a)
 
-near : (t b : ℕ) → b < 256 → is_in tags t ≡ true → distance t b ≤ 1 → nearest tags b ≡ Found t
+near : (t b : ℕ) → b < 256 → is_in tags t ≡ true → distance t b ≤ 1 → nearest tags b ≡ Some t
 near t b h e d =
     found_itself t (nearest tags b)
     (rw (le-leb (distance t b) 1 d) at (near_in t b tags e (true_of (all_near tags b) (below (all_near tags) 256 all_near_lem b h))))
 
-only_in : (us : List ℕ) (t b : ℕ) → nearest us b ≡ Found t → (is_in us t ≡ true) × (distance t b ≤ 1)
+only_in : (us : List ℕ) (t b : ℕ) → nearest us b ≡ Some t → (is_in us t ≡ true) × (distance t b ≤ 1)
 unfolding nearest is_in
 only_in [] t b e = let z : ◌≡◌ {A = ℕ} 0 1 = cc in absurd (omega arith)
 only_in (u ∷ us) t b e = go (leb (distance u b) 1) refl (only_in us t b)
@@ -51,10 +52,10 @@ only_in (u ∷ us) t b e = go (leb (distance u b) 1) refl (only_in us t b)
     or_right true y f = refl
     or_right false y f = f
 
-    go : (c : Bool) → leb (distance u b) 1 ≡ c → (nearest us b ≡ Found t → (is_in us t ≡ true) × (distance t b ≤ 1))
+    go : (c : Bool) → leb (distance u b) 1 ≡ c → (nearest us b ≡ Some t → (is_in us t ≡ true) × (distance t b ≤ 1))
         → (is_in (u ∷ us) t ≡ true) × (distance t b ≤ 1)
     go true p rest =
-        let e' : Found u ≡ Found t = rw p at e in
+        let e' : Some u ≡ Some t = rw p at e in
         let same : u ≡ t = cc in
         (rw (eq-eqb u t same) refl, rw (← same) (leb-true (distance u b) 1 p))
     go false p rest =

@@ -14,8 +14,7 @@ use Rattle.ecc.specs.declared.Code.{Code}
 use Rattle.hamming.specs.declared.Repair.TheVariants.{Clean}
 use Rattle.hamming.specs.Word.{check_bit, check_bits, encoded, decoded}
 use Rattle.hamming.proofs.Protection.{protects}
-use Rattle.spare.specs.declared.SpareAnswer.TheVariants.{Read}
-use Rattle.spare.specs.declared.WriteAnswer.TheVariants.{Written}
+use Rattle.std.specs.Prelude.{Ok}
 use Rattle.spare.specs.Claims.{Writable, spare_fields_of, SpareReadsBack}
 use Rattle.spare.specs.Reading.{magic_of, count_of, by_words, spare_answer}
 use Rattle.spare.specs.Status.{status_of}
@@ -32,7 +31,7 @@ word_read n h =
 
 module _ {bytes : List ℕ} {tag path count : ℕ} (w : Writable bytes tag path count) where
   -- with any codes
-  pub spare_read : (first second : Code) → spare_answer (spare_with first second tag path count) ≡ Read (spare_fields_of tag path count)
+  pub spare_read : (first second : Code) → spare_answer (spare_with first second tag path count) ≡ Ok (spare_fields_of tag path count)
   unfolding spare_answer status_of ones ones_in by_words
   spare_read first second =
       let magic : magic_of (magic_and_count count) ≡ 0x56 = omega arith in
@@ -40,7 +39,7 @@ module _ {bytes : List ℕ} {tag path count : ℕ} (w : Writable bytes tag path 
       rw (tag_table.itself tag w.known, word_read path w.short, word_read (magic_and_count count) (omega arith), magic, low, eq-eqb tag tag refl)
 
   accepted : (lent : List ℕ) → length lent ≡ 16
-      → (write_answer bytes tag path count lent ≡ Written) × (spare_after bytes tag path count lent ≡ spare_of bytes tag path count)
+      → (write_answer bytes tag path count lent ≡ Ok tt) × (spare_after bytes tag path count lent ≡ spare_of bytes tag path count)
   unfolding write_answer spare_after is_writable
   accepted lent l =
       let whole = eq-eqb (length bytes) 512 w.whole in
@@ -49,7 +48,7 @@ module _ {bytes : List ℕ} {tag path count : ℕ} (w : Writable bytes tag path 
       let few = le-leb count 262142 w.few in
       (rw (whole, room, w.known, short, few) refl, rw (whole, room, w.known, short, few) refl)
 
-  alone : spare_answer (spare_of bytes tag path count) ≡ Read (spare_fields_of tag path count)
+  alone : spare_answer (spare_of bytes tag path count) ≡ Ok (spare_fields_of tag path count)
   unfolding spare_of
   alone = spare_read _ _
 

@@ -2,34 +2,28 @@
 -- Assumes nothing.
 use mathlib.Core.Bool.{Bool, true, false, cond, false≢true}
 use mathlib.Core.Path.{◌≡◌, refl, ◌∙◌, ap, sym}
-use Prim.Native.Nat.{ℕ, suc, ◌<◌}
+use Prim.Native.Nat.{ℕ, ◌<◌, ◌≤◌}
 use native.Mathlib.Omega.{arith}
 use borrow.Author.Tests.{eqb-true, ltb-false, ltb-true, ne_eqb}
 use lib.Count.{ones, ones_in}
 use lib.Dec.{eqb, leb, ltb}
-use lib.ListN.{drop, get_or}
-use lib.Seq.{drop-cons}
 use Rattle.bits.proofs.Computed.{below, same, same→eq}
-use Rattle.spare.specs.declared.NearestTag.{NearestTag}
-use Rattle.spare.specs.declared.NearestTag.TheVariants.{Found, Missing}
+use Rattle.std.specs.Prelude.{List, Option, Some, None}
+use Rattle.std.specs.List.{find}
+use Rattle.std.specs.Option.{option_eq}
+use Rattle.std.proofs.lemmas.List.Recursion.{same_from_clauses}
 use Rattle.spare.specs.Tags.{tags, distance, nearest, is_in}
 
--- one tag more: the table from i on is its head and the table from i + 1 on
-pub nearest_next : (b i : ℕ) → i < 7
-    → nearest (drop i tags) b ≡ cond (leb (distance (get_or tags i 0) b) 1) (Found (get_or tags i 0)) (nearest (drop (suc i) tags) b)
-unfolding nearest
-nearest_next b i h = rw (drop-cons tags i 0 h) refl
+-- the nearest tag is the first that is at most one bit away
+pub nearest_found : (ts : List ℕ) (b : ℕ) → nearest ts b ≡ find (λ t. leb (distance t b) 1) ts
+nearest_found ts b = same_from_clauses (λ ts. nearest ts b) (find (λ t. leb (distance t b) 1)) (λ t r. cond (leb (distance t b) 1) (Some t) r) (unfold nearest in refl) (λ t ts. unfold nearest in refl) (λ t ts. refl) ts
 
 -- a byte is one of the tags where the nearest tag is the byte itself
-abbrev pub is_itself : ℕ → NearestTag → Bool
-is_itself t (Found u) = eqb u t
-is_itself t Missing = false
-
-pub in_nearest : (t : ℕ) → t < 256 → is_in tags t ≡ is_itself t (nearest tags t)
+pub in_nearest : (t : ℕ) → t < 256 → is_in tags t ≡ option_eq eqb (nearest tags t) (Some t)
 unfolding is_in nearest ones ones_in
-in_nearest t h = same→eq _ _ (below (λ t. same (is_in tags t) (is_itself t (nearest tags t))) 256 tt t h)
+in_nearest t h = same→eq _ _ (below (λ t. same (is_in tags t) (option_eq eqb (nearest tags t) (Some t))) 256 tt t h)
 
-pub in_byte : (t : ℕ) → 255 < t → is_in tags t ≡ false
+pub in_byte : (t : ℕ) → 256 ≤ t → is_in tags t ≡ false
 unfolding is_in
 in_byte t h =
     simp (
@@ -42,13 +36,13 @@ in_byte t h =
       ne_eqb 0x01 t (λ e. omega arith),
     )
 
-pub found_itself : (t : ℕ) (n : NearestTag) → is_itself t n ≡ true → n ≡ Found t
-found_itself t (Found u) p = ap Found (eqb-true u t p)
-found_itself t Missing p = absurd (false≢true p)
+pub found_itself : (t : ℕ) (n : Option ℕ) → option_eq eqb n (Some t) ≡ true → n ≡ Some t
+found_itself t (Some u) p = ap Some (eqb-true u t p)
+found_itself t None p = absurd (false≢true p)
 
-pub itself : (t : ℕ) → is_in tags t ≡ true → nearest tags t ≡ Found t
-itself t e = go (ltb 255 t) refl
+pub itself : (t : ℕ) → is_in tags t ≡ true → nearest tags t ≡ Some t
+itself t e = go (ltb t 256) refl
   where
-    go : (b : Bool) → ltb 255 t ≡ b → nearest tags t ≡ Found t
-    go true p = absurd (false≢true (sym (in_byte t (ltb-true 255 t p)) ∙ e))
-    go false p = found_itself t (nearest tags t) (sym (in_nearest t (omega (arith, ltb-false 255 t p))) ∙ e)
+    go : (b : Bool) → ltb t 256 ≡ b → nearest tags t ≡ Some t
+    go true p = found_itself t (nearest tags t) (sym (in_nearest t (ltb-true t 256 p)) ∙ e)
+    go false p = absurd (false≢true (sym (in_byte t (ltb-false t 256 p)) ∙ e))

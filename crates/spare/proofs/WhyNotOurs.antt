@@ -13,14 +13,11 @@ use lib.ListN.{length, get_or, replicate}
 use Rattle.bits.proofs.Both.{both_left, both_right}
 use Rattle.bits.specs.Bits.{bit, number, parity_of}
 use Rattle.chip.specs.Refusals.{refusal_number}
+use Rattle.chip.specs.declared.BadKind.{BadKind}
 use Rattle.chip.specs.declared.Refusal.{Refusal}
 use Rattle.chip.specs.declared.Refusal.TheVariants.{Length, BadBlock, Tag}
 use Rattle.hamming.specs.Word.{not_powers, house_numbers, check_bit, check_bits, named, decoded_by, decoded}
-use Rattle.spare.specs.declared.NearestTag.{NearestTag}
-use Rattle.spare.specs.declared.NearestTag.TheVariants.{Found, Missing}
-use Rattle.spare.specs.declared.SpareAnswer.TheVariants.{Refused}
-use Rattle.spare.specs.declared.Status.{Status}
-use Rattle.spare.specs.declared.Status.TheVariants.{Good, Bad}
+use Rattle.std.specs.Prelude.{⊤, Option, Some, None, Result, Ok, Err}
 use Rattle.spare.specs.Reading.{count_word, magic_of, is_erased, not_ours, by_words, spare_answer}
 use Rattle.spare.specs.Status.{status_of}
 use Rattle.spare.specs.Tags.{tags, nearest}
@@ -50,7 +47,7 @@ module _ (s : List ℕ) where
   why_not : Refusal
   why_not = not_ours s (decoded (count_word s)).repair
 
-  answer : WrongMagic s → spare_answer s ≡ Refused why_not
+  answer : WrongMagic s → spare_answer s ≡ Err why_not
   unfolding spare_answer by_words why_not
   answer w = simp (eq-eqb (length s) 16 w.sixteen, w.good, w.tagged, ne_eqb (magic_of (decoded (count_word s)).bits) 0x56 w.wrong)
 
@@ -83,27 +80,27 @@ module _ (s : List ℕ) where
   exclusive r q (repaired w f) (not_repaired v b g) = absurd (true≢false (sym f ∙ g))
   exclusive r q (repaired w f) (repaired v g) = refl
 
-  told : (r : Refusal) → Why s r → spare_answer s ≡ Refused r
-  told r y = let w = nothing_more r y in answer w ∙ ap Refused (exclusive why_not r (reason w) y)
+  told : (r : Refusal) → Why s r → spare_answer s ≡ Err r
+  told r y = let w = nothing_more r y in answer w ∙ ap Err (exclusive why_not r (reason w) y)
 
   -- a refusal with a number above 50 is not 1, 3 or 4
-  wrong_magic : (r : Refusal) → 50 < refusal_number r → spare_answer s ≡ Refused r → WrongMagic s
+  wrong_magic : (r : Refusal) → 50 < refusal_number r → spare_answer s ≡ Err r → WrongMagic s
   unfolding spare_answer by_words
   wrong_magic r h e = go (eqb (length s) 16) refl (status_of (get_or s 5 0)) refl (nearest tags (get_or s 4 0)) refl (eqb (magic_of (decoded (count_word s)).bits) 0x56) refl
     where
-      number : (q : Refusal) → spare_answer s ≡ Refused q → refusal_number q ≡ refusal_number r
+      number : (q : Refusal) → spare_answer s ≡ Err q → refusal_number q ≡ refusal_number r
       number q f = let same : q ≡ r = cc in ap refusal_number same
 
-      go : (l : Bool) → eqb (length s) 16 ≡ l → (t : Status) → status_of (get_or s 5 0) ≡ t → (n : NearestTag) → nearest tags (get_or s 4 0) ≡ n
+      go : (l : Bool) → eqb (length s) 16 ≡ l → (t : Result ⊤ BadKind) → status_of (get_or s 5 0) ≡ t → (n : Option ℕ) → nearest tags (get_or s 4 0) ≡ n
           → (m : Bool) → eqb (magic_of (decoded (count_word s)).bits) 0x56 ≡ m → WrongMagic s
       go false el t et n en m em = absurd (omega (arith, number Length (rw el)))
-      go true el (Bad k) et n en m em = absurd (omega (arith, number (BadBlock k) (rw (el, et))))
-      go true el Good et Missing en m em = absurd (omega (arith, number Tag (rw (el, et, en))))
-      go true el Good et (Found t) en true em = let read = rw (el, et, en, em) at e in absurd (let z : ◌≡◌ {A = ℕ} 0 1 = cc in omega arith)
-      go true el Good et (Found t) en false em =
+      go true el (Err k) et n en m em = absurd (omega (arith, number (BadBlock k) (rw (el, et))))
+      go true el (Ok tt) et None en m em = absurd (omega (arith, number Tag (rw (el, et, en))))
+      go true el (Ok tt) et (Some t) en true em = let read = rw (el, et, en, em) at e in absurd (let z : ◌≡◌ {A = ℕ} 0 1 = cc in omega arith)
+      go true el (Ok tt) et (Some t) en false em =
           record { sixteen = eqb-true (length s) 16 el; good = et; tag = t; tagged = en; wrong = eqb-false (magic_of (decoded (count_word s)).bits) 0x56 em }
 
-  only : (r : Refusal) → 50 < refusal_number r → spare_answer s ≡ Refused r → Why s r
+  only : (r : Refusal) → 50 < refusal_number r → spare_answer s ≡ Err r → Why s r
   only r h e =
       let w = wrong_magic r h e in
       let same : why_not ≡ r = cc (answer w) in

@@ -4,7 +4,6 @@ use mathlib.Core.Bool.{Bool, true, false, ◌&&◌, false≢true}
 use mathlib.Core.Path.{◌≡◌, refl, ◌∙◌, sym}
 use Prim.Native.Nat.{ℕ, ◌<◌, ◌≤◌, ◌^◌}
 use borrow.Author.Tests.{leb-true, ltb-false, ltb-true}
-use native.Mathlib.Omega.{arith}
 use lib.Dec.{leb, ltb}
 use Rattle.bits.proofs.Both.{both_left, both_right}
 use Rattle.spare.specs.Tags.{tags, is_in}
@@ -12,11 +11,11 @@ use Rattle.spare.specs.Writing.{is_writable}
 use Rattle.spare.proofs.Tagging.{in_byte}
 
 pub tag_byte : (t : ℕ) → is_in tags t ≡ true → t < 256
-tag_byte t e = go (ltb 255 t) refl
+tag_byte t e = go (ltb t 256) refl
   where
-    go : (b : Bool) → ltb 255 t ≡ b → t < 256
-    go true p = absurd (false≢true (sym (in_byte t (ltb-true 255 t p)) ∙ e))
-    go false p = omega (arith, ltb-false 255 t p)
+    go : (b : Bool) → ltb t 256 ≡ b → t < 256
+    go true p = ltb-true t 256 p
+    go false p = absurd (false≢true (sym (in_byte t (ltb-false t 256 p)) ∙ e))
 
 pub record Fits (tag path count : ℕ) : Type 0 where
   pub byte : tag < 256

@@ -1,8 +1,6 @@
 -- Demand 2 for spares: what may be written is written, and reads back as the same fields.
-use Rattle.std.specs.Prelude.{false, true, List, ◌≡◌, ℕ, ◌<◌, ◌≤◌, ◌^◌, length}
-use Rattle.spare.specs.declared.SpareAnswer.TheVariants.{Read}
+use Rattle.std.specs.Prelude.{false, true, List, ◌≡◌, ℕ, ◌<◌, ◌≤◌, ◌^◌, length, Ok}
 use Rattle.spare.specs.declared.SpareFields.{SpareFields}
-use Rattle.spare.specs.declared.WriteAnswer.TheVariants.{Written}
 use Rattle.spare.specs.Reading.{spare_answer}
 use Rattle.spare.specs.Tags.{tags, is_in}
 use Rattle.spare.specs.Writing.{spare_of, write_answer, spare_after}
@@ -22,6 +20,6 @@ spare_fields_of tag path count =
 pub record SpareReadsBack (bytes : List ℕ) (tag path count : ℕ) : Type 0 where
   -- it is written: the answer, and the lent bytes after it
   pub accepted : (lent : List ℕ) → length lent ≡ 16
-      → (write_answer bytes tag path count lent ≡ Written) × (spare_after bytes tag path count lent ≡ spare_of bytes tag path count)
+      → (write_answer bytes tag path count lent ≡ Ok tt) × (spare_after bytes tag path count lent ≡ spare_of bytes tag path count)
   -- it reads back
-  pub alone : spare_answer (spare_of bytes tag path count) ≡ Read (spare_fields_of tag path count)
+  pub alone : spare_answer (spare_of bytes tag path count) ≡ Ok (spare_fields_of tag path count)

@@ -1,19 +1,14 @@
 -- Document 01, "Small page: the sixteen spare bytes": what reading a spare gives.
-use Rattle.std.specs.Prelude.{Bool, true, not, cond, ◌&&◌, List, [], ◌∷◌, ℕ, ◌+◌, ◌/◌, ◌%◌, ◌^◌, eqb, length, get_or}
+use Rattle.std.specs.Prelude.{Bool, true, not, cond, ◌&&◌, List, [], ◌∷◌, ℕ, ◌+◌, ◌/◌, ◌%◌, ◌^◌, eqb, length, get_or, ⊤, Option, Some, None, Result, Ok, Err}
 use Rattle.bits.specs.Bytes.{word}
+use Rattle.chip.specs.declared.BadKind.{BadKind}
 use Rattle.chip.specs.declared.Refusal.{Refusal}
 use Rattle.chip.specs.declared.Refusal.TheVariants.{Length, BadBlock, Tag, Erased, NotOurs, NotOursRepaired}
 use Rattle.hamming.specs.Word.{decoded, is_repair}
 use Rattle.hamming.specs.declared.Decoded.{Decoded}
 use Rattle.hamming.specs.declared.Repair.{Repair}
-use Rattle.spare.specs.declared.NearestTag.{NearestTag}
-use Rattle.spare.specs.declared.NearestTag.TheVariants.{Found, Missing}
-use Rattle.spare.specs.declared.SpareAnswer.{SpareAnswer}
-use Rattle.spare.specs.declared.SpareAnswer.TheVariants.{Read, Refused}
 use Rattle.spare.specs.declared.Repaired.{Repaired}
 use Rattle.spare.specs.declared.SpareFields.{SpareFields}
-use Rattle.spare.specs.declared.Status.{Status}
-use Rattle.spare.specs.declared.Status.TheVariants.{Good, Bad}
 use Rattle.spare.specs.Status.{status_of}
 use Rattle.spare.specs.Tags.{tags, nearest}
 
@@ -53,23 +48,23 @@ fields_by s tag path count = record {
 }
 
 -- the same, or the refusal: the magic is judged after repair
-unfoldable pub by_words : List ℕ → ℕ → Decoded → Decoded → SpareAnswer
+unfoldable pub by_words : List ℕ → ℕ → Decoded → Decoded → Result SpareFields Refusal
 by_words s tag path count =
-    cond (eqb (magic_of count.bits) 0x56) (Read (fields_by s tag path count)) (Refused (not_ours s count.repair))
+    cond (eqb (magic_of count.bits) 0x56) (Ok (fields_by s tag path count)) (Err (not_ours s count.repair))
 
 -- the tag is known
-abbrev pub by_tag : List ℕ → NearestTag → SpareAnswer
-by_tag s Missing = Refused Tag
-by_tag s (Found t) = by_words s t (decoded (path_word s)) (decoded (count_word s))
+abbrev pub by_tag : List ℕ → Option ℕ → Result SpareFields Refusal
+by_tag s None = Err Tag
+by_tag s (Some t) = by_words s t (decoded (path_word s)) (decoded (count_word s))
 
 -- the status is known
-abbrev pub by_status : List ℕ → Status → SpareAnswer
-by_status s (Bad k) = Refused (BadBlock k)
-by_status s Good = by_tag s (nearest tags (get_or s 4 0))
+abbrev pub by_status : List ℕ → Result ⊤ BadKind → Result SpareFields Refusal
+by_status s (Err k) = Err (BadBlock k)
+by_status s (Ok _) = by_tag s (nearest tags (get_or s 4 0))
 
 -- the answer of reading a spare: refusals 1, 3, 4, then one of 51 to 53
-unfoldable pub spare_answer : List ℕ → SpareAnswer
-spare_answer s = cond (eqb (length s) 16) (by_status s (status_of (get_or s 5 0))) (Refused Length)
+unfoldable pub spare_answer : List ℕ → Result SpareFields Refusal
+spare_answer s = cond (eqb (length s) 16) (by_status s (status_of (get_or s 5 0))) (Err Length)
 
 -- how many of tag, path word and count word were repaired: 0 to 3
 abbrev pub spare_repairs : Repaired → ℕ

@@ -1,9 +1,7 @@
 -- Document 01, "Tags": the seven tag bytes, and the tag that a byte stands for.
-use Rattle.std.specs.Prelude.{Bool, true, false, cond, ◌&&◌, ◌||◌, List, [], ◌∷◌, ◌≡◌, ℕ, zero, suc, ◌+◌, ◌<◌, ◌≤◌, eqb, leb}
+use Rattle.std.specs.Prelude.{Bool, true, false, cond, ◌&&◌, ◌||◌, List, [], ◌∷◌, ◌≡◌, ℕ, zero, suc, ◌+◌, ◌<◌, ◌≤◌, eqb, leb, Option, Some, None}
 use Rattle.std.specs.Int.Bits.{bit_xor}
 use Rattle.std.specs.Int.Count.{ones}
-use Rattle.spare.specs.declared.NearestTag.{NearestTag}
-use Rattle.spare.specs.declared.NearestTag.TheVariants.{Found, Missing}
 
 -- free, log-copying, log, data-copying, data, boot-copying, boot
 abbrev pub tags : List ℕ
@@ -14,9 +12,9 @@ abbrev pub distance : ℕ → ℕ → ℕ
 distance a b = ones (bit_xor a b)
 
 -- a byte at most one bit from a tag is that tag
-unfoldable pub nearest : List ℕ → ℕ → NearestTag
-nearest [] b = Missing
-nearest (t ∷ ts) b = cond (leb (distance t b) 1) (Found t) (nearest ts b)
+unfoldable pub nearest : List ℕ → ℕ → Option ℕ
+nearest [] b = None
+nearest (t ∷ ts) b = cond (leb (distance t b) 1) (Some t) (nearest ts b)
 
 -- is t one of a list?
 unfoldable pub is_in : List ℕ → ℕ → Bool
@@ -34,9 +32,9 @@ all_apart [] = true
 all_apart (t ∷ ts) = apart_from t ts && all_apart ts
 
 -- how many of the bytes below n are a tag
-unfoldable pub is_found : NearestTag → ℕ
-is_found (Found t) = 1
-is_found Missing = 0
+unfoldable pub is_found : Option ℕ → ℕ
+is_found (Some t) = 1
+is_found None = 0
 
 unfoldable pub bytes_found : ℕ → ℕ
 bytes_found zero = 0
@@ -49,8 +47,8 @@ pub record TagTable : Type 0 where
   pub counted : bytes_found 256 ≡ 63
   pub refused : 193 + bytes_found 256 ≡ 256
   -- each tag is itself
-  pub itself : (t : ℕ) → is_in tags t ≡ true → nearest tags t ≡ Found t
+  pub itself : (t : ℕ) → is_in tags t ≡ true → nearest tags t ≡ Some t
   -- a byte at most one bit from a tag is that tag
-  pub near : (t b : ℕ) → b < 256 → is_in tags t ≡ true → distance t b ≤ 1 → nearest tags b ≡ Found t
+  pub near : (t b : ℕ) → b < 256 → is_in tags t ≡ true → distance t b ≤ 1 → nearest tags b ≡ Some t
   -- and no other byte is
-  pub only : (t b : ℕ) → nearest tags b ≡ Found t → (is_in tags t ≡ true) × (distance t b ≤ 1)
+  pub only : (t b : ℕ) → nearest tags b ≡ Some t → (is_in tags t ≡ true) × (distance t b ≤ 1)

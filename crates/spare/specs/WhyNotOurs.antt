@@ -1,12 +1,9 @@
 -- Document 02, T-04: what became of refusal 5. Three refusals stand in its place, each with a reason of its own.
-use Rattle.std.specs.Prelude.{Bool, true, false, List, ◌≡◌, ℕ, ◌<◌, length, get_or, replicate}
+use Rattle.std.specs.Prelude.{Bool, true, false, List, ◌≡◌, ℕ, ◌<◌, length, get_or, replicate, Some, Ok, Err}
 use Rattle.chip.specs.Refusals.{refusal_number}
 use Rattle.chip.specs.declared.Refusal.{Refusal}
 use Rattle.chip.specs.declared.Refusal.TheVariants.{Erased, NotOurs, NotOursRepaired}
 use Rattle.hamming.specs.Word.{decoded, is_repair}
-use Rattle.spare.specs.declared.NearestTag.TheVariants.{Found}
-use Rattle.spare.specs.declared.SpareAnswer.TheVariants.{Refused}
-use Rattle.spare.specs.declared.Status.TheVariants.{Good}
 use Rattle.spare.specs.Reading.{count_word, magic_of, spare_answer}
 use Rattle.spare.specs.Status.{status_of}
 use Rattle.spare.specs.Tags.{tags, nearest}
@@ -14,9 +11,9 @@ use Rattle.spare.specs.Tags.{tags, nearest}
 -- what document 01 refuses with 5: refusals 1, 3 and 4 are not met, and the repaired magic is not 56 hex
 pub record WrongMagic (s : List ℕ) : Type 0 where
   pub sixteen : length s ≡ 16
-  pub good : status_of (get_or s 5 0) ≡ Good
+  pub good : status_of (get_or s 5 0) ≡ Ok tt
   pub tag : ℕ
-  pub tagged : nearest tags (get_or s 4 0) ≡ Found tag
+  pub tagged : nearest tags (get_or s 4 0) ≡ Some tag
   pub wrong : magic_of (decoded (count_word s)).bits ≡ 0x56 → ⊥
 
 -- all 16 spare bytes are FF
@@ -41,5 +38,5 @@ pub record SplitsFive (s : List ℕ) : Type 0 where
   -- they exclude each other
   pub exclusive : (r q : Refusal) → Why s r → Why s q → r ≡ q
   -- a spare is refused with each exactly when its reason holds; no other refusal of a spare has a number above 50
-  pub told : (r : Refusal) → Why s r → spare_answer s ≡ Refused r
-  pub only : (r : Refusal) → 50 < refusal_number r → spare_answer s ≡ Refused r → Why s r
+  pub told : (r : Refusal) → Why s r → spare_answer s ≡ Err r
+  pub only : (r : Refusal) → 50 < refusal_number r → spare_answer s ≡ Err r → Why s r

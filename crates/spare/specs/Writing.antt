@@ -1,12 +1,11 @@
 -- Document 01, "Small page: the sixteen spare bytes": what is written for a page.
-use Rattle.std.specs.Prelude.{Bool, cond, ◌&&◌, List, [], ◌∷◌, ℕ, ◌+◌, ◌*◌, ◌^◌, eqb, leb, ltb, length, take, drop}
+use Rattle.std.specs.Prelude.{Bool, cond, ◌&&◌, List, [], ◌∷◌, ℕ, ◌+◌, ◌*◌, ◌^◌, eqb, leb, ltb, length, take, drop, ⊤, Result, Ok, Err}
 use Rattle.bits.specs.Bytes.{byte_of}
+use Rattle.chip.specs.declared.Refusal.{Refusal}
 use Rattle.chip.specs.declared.Refusal.TheVariants.{Length, Range}
 use Rattle.ecc.specs.Half.{code_of}
 use Rattle.ecc.specs.declared.Code.{Code}
 use Rattle.hamming.specs.Word.{encoded}
-use Rattle.spare.specs.declared.WriteAnswer.{WriteAnswer}
-use Rattle.spare.specs.declared.WriteAnswer.TheVariants.{Written, Refused}
 use Rattle.spare.specs.Tags.{tags, is_in}
 
 -- the halves of a page's data
@@ -50,16 +49,16 @@ unfoldable pub is_writable : ℕ → ℕ → ℕ → Bool
 is_writable tag path count = is_in tags tag && (ltb path (2 ^ 26) && leb count 262142)
 
 -- the answer of writing: refusal 1, then 2
-unfoldable pub write_answer : List ℕ → ℕ → ℕ → ℕ → List ℕ → WriteAnswer
+unfoldable pub write_answer : List ℕ → ℕ → ℕ → ℕ → List ℕ → Result ⊤ Refusal
 write_answer bytes tag path count spare =
     cond (eqb (length bytes) 512 && eqb (length spare) 16)
-    (cond (is_writable tag path count) Written (Refused Range))
-    (Refused Length)
+    (cond (is_writable tag path count) (Ok tt) (Err Range))
+    (Err Length)
 
 -- the lent spare after it: changed where it was written only
-abbrev pub spare_by : WriteAnswer → List ℕ → List ℕ → List ℕ
-spare_by Written new old = new
-spare_by (Refused r) new old = old
+abbrev pub spare_by : Result ⊤ Refusal → List ℕ → List ℕ → List ℕ
+spare_by (Ok _) new old = new
+spare_by (Err r) new old = old
 
 unfoldable pub spare_after : List ℕ → ℕ → ℕ → ℕ → List ℕ → List ℕ
 spare_after bytes tag path count spare = spare_by (write_answer bytes tag path count spare) (spare_of bytes tag path count) spare

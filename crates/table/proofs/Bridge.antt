@@ -1,5 +1,6 @@
 -- The bridge: a region and room for its bitmap pass every test of what is lent, so reading is that of the rules.
 -- Assumes nothing.
+use Rattle.std.specs.Prelude.{Ok}
 use mathlib.Core.Bool.{true}
 use mathlib.Core.List.{List}
 use mathlib.Core.Path.{◌≡◌, ap, ◌∙◌}
@@ -13,7 +14,6 @@ use Rattle.bbt.specs.Plans.{Reading, reading}
 use Rattle.bbt.specs.Regions.{Region, view}
 use Rattle.bbt.proofs.Searches.{all_intro}
 use Rattle.chip.specs.Large.{chip_of, bitmap_bytes, region_pages, region_bytes}
-use Rattle.chip.specs.declared.ChipAnswer.TheVariants.{Chip}
 use Rattle.chip.specs.declared.LargeChip.{LargeChip}
 use Rattle.table.specs.Bridge.{ReadBridged}
 use Rattle.table.specs.Tables.{told_reading, room_by, table_answer, table_after}
@@ -29,7 +29,7 @@ module _ {chip : LargeChip} (r : Region chip) where
   unfolding statuses_right
   statuses-right = all_intro (length r.status) (λ i. ltb (get_or r.status i 0) 2) (λ i l. lt-ltb (get_or r.status i 0) 2 (r.status_bits i))
 
-  region_reads : (n size : ℕ) → chip_of n size ≡ Chip chip → (room : List ℕ) → length room ≡ bitmap_bytes chip
+  region_reads : (n size : ℕ) → chip_of n size ≡ Ok chip → (room : List ℕ) → length room ≡ bitmap_bytes chip
       → table_reading n size r.image r.status room ≡ reading chip (view r)
   unfolding table_reading lent_reading
   region_reads n size e room h = rw (e, lengths_right, eq-eqb (length room) (bitmap_bytes chip) h, statuses-right)

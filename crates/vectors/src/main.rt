@@ -6,8 +6,7 @@
 
 ghost use Rattle.std.specs.Prelude.{◌≡◌, ◌*◌, ◌<◌, length};
 
-use chip::{ChipAnswer, LargeChip, RegionBlock};
-use oob::OobAnswer;
+use chip::{LargeChip, RegionBlock};
 use std::{fs, io};
 
 // A capital hexadecimal digit's value; of any other character some number below 16.
@@ -54,13 +53,6 @@ fn spare_is_equal(line: &[u8]) -> bool
     r % 256 == answer[0] as u64 && r / 256 == answer[1] as u64 && got == want
 }
 
-// The kinds of file.
-#[derive(Clone, Copy)]
-enum Kind {
-    HalfCodes,
-    Spares,
-}
-
 // How many lines were compared, and how many of them were equal.
 #[derive(Clone, Copy)]
 struct Tally {
@@ -80,31 +72,33 @@ impl Tally {
     }
 }
 
-// The lines of a file's text.
-fn lines(text: &[u8], kind: Kind) -> Tally {
+// The lines of a file's text, of so many bytes each, and how many of them are as they say.
+fn compare<F: Fn(&[u8]) -> bool>(text: &[u8], bytes: usize, is_equal: F) -> Tally
+    requires some { 0 < bytes }
+    requires callable { (line : _) → length line.now ≡ bytes → F.pre is_equal line }
+{
     let mut tally = Tally {
         compared: 0,
         equal: 0,
     };
-    match kind {
-        Kind::HalfCodes => {
-            for line in text.chunks_exact(520) {
-                tally.count(half_is_equal(line));
-            }
-        }
-        Kind::Spares => {
-            for line in text.chunks_exact(61) {
-                tally.count(spare_is_equal(line));
-            }
-        }
+    for line in text.chunks_exact(bytes) {
+        tally.count(is_equal(line));
     }
     tally
 }
 
-// Runs a file, and writes what it showed.
-fn run(rt: &HostRuntime, name: &str, kind: Kind) -> io::Result<()> {
+// Runs a file whose lines have so many bytes each, and writes what it showed.
+fn run<F: Fn(&[u8]) -> bool>(
+    rt: &HostRuntime,
+    name: &str,
+    bytes: usize,
+    is_equal: F,
+) -> io::Result<()>
+    requires some { 0 < bytes }
+    requires callable { (line : _) → length line.now ≡ bytes → F.pre is_equal line }
+{
     let text = fs::read(rt, name)?;
-    let t = lines(&text, kind);
+    let t = compare(&text, bytes, is_equal);
     let compared = t.compared;
     let equal = t.equal;
     println!(rt; "{name}: {compared} compared, {equal} equal")
@@ -122,11 +116,11 @@ fn erased(rt: &HostRuntime, byte: u8) -> io::Result<()> {
 // Of a number of blocks, and how many of them are the region: P, or the refusal of these numbers.
 fn blocks(rt: &HostRuntime, n: u64, size: u64) -> io::Result<()> {
     match LargeChip::new(n, size) {
-        ChipAnswer::Chip(chip) => {
+        Ok(chip) => {
             let pages = chip.pages();
             println!(rt; "{n} blocks, region of {size}: P {pages}")
         }
-        ChipAnswer::Refused(r) => {
+        Err(r) => {
             let number = r.number();
             println!(rt; "{n} blocks, region of {size}: refusal {number}")
         }
@@ -152,8 +146,8 @@ fn mark(image: &mut [u8]) {
 fn asked(rt: &HostRuntime, n: u64, size: u64, image: &[u8], block: u8, page: u8) -> io::Result<()> {
     print!(rt; "view of {n} blocks, region of {size}, block {block}, page {page}: ")?;
     match view::answer_of(n, size, image, RegionBlock(block), page) {
-        OobAnswer::Given => print!(rt; "given, ")?,
-        OobAnswer::Refused(r) => {
+        Ok(()) => print!(rt; "given, ")?,
+        Err(r) => {
             let number = r.number();
             print!(rt; "refusal {number}, ")?;
         }
@@ -220,8 +214,8 @@ fn numbers(rt: &HostRuntime) -> io::Result<()> {
 }
 
 fn main(rt: HostRuntime) -> io::Result<()> {
-    run(&rt, "half-codes", Kind::HalfCodes)?;
-    run(&rt, "spares", Kind::Spares)?;
+    run(&rt, "half-codes", 520, |line| half_is_equal(line))?;
+    run(&rt, "spares", 61, |line| spare_is_equal(line))?;
     erased(&rt, 0xFF)?;
     erased(&rt, 0x00)?;
     numbers(&rt)?;

@@ -5,8 +5,8 @@
 ghost use Rattle.std.specs.Prelude.{◌≡◌, length};
 ghost use Rattle.oob.specs.Oob.{OobOf, extent_of, oob_answer};
 
-use chip::RegionBlock;
-use oob::{Extent, OobAnswer};
+use chip::{Refusal, RegionBlock};
+use oob::Extent;
 
 // The lent image itself, and how far it reaches: P, and the number of region blocks. Both are 0 where N or
 // the region's size is refused.
@@ -16,10 +16,11 @@ pub struct View<'a> {
     extent: Extent,
 }
 
-// What a view hands back of a page: the answer, and the 64 OOB bytes as a part of the lent image; an empty part beside a refusal.
+// What a view hands back of a page: the answer, and the 64 OOB bytes as a part of the lent image; an empty part beside a refusal,
+// whose place `OobOf` tells.
 #[derive(Clone, Copy)]
 pub struct Oob<'a> {
-    pub answer: OobAnswer,
+    pub answer: Result<(), Refusal>,
     pub part: &'a [u8],
 }
 
@@ -46,7 +47,13 @@ impl<'a> View<'a> {
 }
 
 // The answer of a view of the image of a region of `size` blocks, on a chip of n.
-pub fn answer_of(n: u64, size: u64, image: &[u8], block: RegionBlock, page: u8) -> OobAnswer
+pub fn answer_of(
+    n: u64,
+    size: u64,
+    image: &[u8],
+    block: RegionBlock,
+    page: u8,
+) -> Result<(), Refusal>
     ensures { result ≡ oob_answer (extent_of n size) (length image.now) block.0 page }
 {
     View::new(n, size, image).oob(block, page).answer

@@ -1,13 +1,8 @@
--- `new_equals_old` meets its contract: at each turn what is asked of the whole is asked of what is left.
+-- `new_equals_old` meets its contract: the difference is the XOR of an old byte and what the rule makes of it.
 -- Assumes nothing.
-use mathlib.Core.Path.{◌≡◌}
-use Prim.Native.Nat.{◌≤◌, ◌-◌}
-use lib.ListN.{length, drop}
-use Rattle.bitmap.specs.Made.{new_equals_old}
+use lib.Bits.{bit_xor}
+use Rattle.bbt.specs.Entries.{updated_byte}
 use Rattle.bitmap.proofs.new_equals_old.Given as goal
 
-abbrev pub invariant-loop-kept : goal.invariant-loop-kept
-invariant-loop-kept l = (new_equals_old l.old l.wanted ≡ new_equals_old (drop l.kept l.old) (drop l.kept l.wanted)) × (l.kept ≤ length l.old)
-
-abbrev pub decreases-loop-kept : goal.decreases-loop-kept
-decreases-loop-kept l = length l.old - l.kept
+abbrev pub ghost-no_difference : goal.ghost-no_difference
+ghost-no_difference a = λ o w. bit_xor (updated_byte o w) o

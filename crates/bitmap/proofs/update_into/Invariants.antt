@@ -1,15 +1,7 @@
--- `update_into` meets its contract: after i turns `out` is filled with the first i bytes of the update.
+-- `update_into` meets its contract: what is put into `out` is the update rule of each two bytes.
 -- Assumes nothing.
-use mathlib.Core.Path.{◌≡◌}
-use Prim.Native.Nat.{◌≤◌, ◌-◌}
-use lib.ListN.{length}
-use Rattle.bits.proofs.Filling.{filled}
 use Rattle.bbt.specs.Entries.{updated_byte}
-use Rattle.bitmap.proofs.Into.{place}
 use Rattle.bitmap.proofs.update_into.Given as goal
 
-abbrev pub invariant-loop-i : goal.invariant-loop-i
-invariant-loop-i l = (l.i ≤ length l.initial.out) × (length l.out ≡ length l.initial.out) × (l.out ≡ filled (place updated_byte l.old l.wanted) l.i l.initial.out)
-
-abbrev pub decreases-loop-i : goal.decreases-loop-i
-decreases-loop-i l = length l.initial.out - l.i
+abbrev pub ghost-put_into : goal.ghost-put_into
+ghost-put_into a = updated_byte

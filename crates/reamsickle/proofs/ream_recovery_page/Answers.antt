@@ -1,9 +1,0 @@
--- `ream_recovery_page` meets its contract: the answer of `recovery_page` as a number.
--- Assumes nothing.
-use mathlib.Core.Path.{◌∙◌, ap}
-use Rattle.reamsickle.specs.LargeBoundary.{image_code_by, image_code}
-use Rattle.reamsickle.proofs.ream_recovery_page.Goals as goal
-
-pub returns : goal.returns
-unfolding image_code
-returns c = let w = c.recovery_page.ensures in record { answer = c.image_code.ensures ∙ ap image_code_by w.answer; out = w.out }
