@@ -99,8 +99,9 @@ fn fail(
     ensures { result ≡ step_retired n size image.now status.now gone plan (nth_step (told_steps plan) k) }
 {
     match plan.step(k) {
-        Some(Step::Erase(c)) => retire(n, size, image, status, gone, plan, c),
-        Some(Step::Write(c, _, _)) => retire(n, size, image, status, gone, plan, c),
+        Some(Step::Erase(c) | Step::Write(c, _, _)) => {
+            retire(n, size, image, status, gone, plan, c)
+        }
         Some(Step::Zero(_)) => Err(Refusal::ZeroFailed),
         None => Err(Refusal::Range),
     }
