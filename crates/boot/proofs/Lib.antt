@@ -1,3 +1,4 @@
+pub mod TwoCopies
 pub mod Searching
 pub mod Chunks
 pub mod Fitting

@@ -2,7 +2,7 @@
 -- number alone is that so.
 -- Assumes nothing.
 use mathlib.Core.Bool.{Bool, true, false}
-use mathlib.Core.Path.{◌≡◌}
+use mathlib.Core.Path.{◌≡◌, refl}
 use Prim.Native.Nat.{ℕ, zero, suc, ◌+◌, ◌<◌, ◌≤◌}
 use native.Mathlib.Omega.{arith}
 use Rattle.boot.specs.Mapping.{Blocks, standing, in_order, above, first_not, smallest_out}
@@ -23,6 +23,12 @@ pub first_not_is : (f : ℕ → Bool) (k n m : ℕ) → k ≤ m → m ≤ k + n 
 unfolding first_not
 first_not_is f k zero m h l before at = omega arith
 first_not_is f k (suc n) m h l before at = grind (arith, before k, at, λ (q : k < m). first_not_is f (suc k) n m q (omega arith) before (λ i. at (omega arith)))
+
+-- of two tests that are the same at the numbers asked
+pub first_not_same : (f g : ℕ → Bool) (k n : ℕ) → ((i : ℕ) → i < k + n → f i ≡ g i) → first_not f k n ≡ first_not g k n
+unfolding first_not
+first_not_same f g k zero h = refl
+first_not_same f g k (suc n) h = rw (h k (omega arith), first_not_same f g (suc k) n (λ i b. h i (omega arith))) refl
 
 -- the smallest number out of order is out of order, and those below it are in order
 module _ (blocks : Blocks) (n : ℕ) where

@@ -2,13 +2,14 @@
 -- Assumes nothing.
 use Rattle.std.specs.Prelude.{Ok, Err}
 use mathlib.Core.Bool.{true, false, and-false}
-use mathlib.Core.List.{List, []}
+use mathlib.Core.List.{List, [], ◌∷◌}
 use mathlib.Core.Path.{◌≡◌, refl, ◌∙◌, ap, ap₂}
 use Prim.Native.Nat.{ℕ, zero, suc, ◌+◌, ◌*◌, ◌/◌, ◌<◌}
 use native.Mathlib.Omega.{arith}
 use borrow.Author.Tests.{eq-eqb, ne_eqb}
-use lib.ListN.{length, get_or, drop}
+use lib.ListN.{length, get_or, set, drop}
 use lib.Seq.{get_or-take, get_or-drop}
+use Rattle.std.proofs.lemmas.Grind.{common_steps}
 use Rattle.std.specs.Simd.{first_chunks}
 use Rattle.bits.specs.Bytes.{build}
 use Rattle.chip.specs.Large.{chip_of, bitmap_bytes}
@@ -32,25 +33,40 @@ module _ (marks : List ℕ) (i : ℕ) (h : i < length marks / 8) where
   eight : List ℕ
   eight = get_or (first_chunks 8 (length marks / 8) marks) i []
 
-  entry : (j b : ℕ) → j < 4 → b ≡ 4 * i + j → mark_entry (get_or eight (2 * j) 0) (get_or eight (2 * j + 1) 0) ≡ first_entry marks b
-  unfolding eight
-  entry j b hj e =
-      ap₂ mark_entry (part_at 8 (length marks / 8) marks i (2 * j) (2 * b) h (omega arith) (omega arith))
-      (part_at 8 (length marks / 8) marks i (2 * j + 1) (2 * b + 1) h (omega arith) (omega arith))
-
-  eight_byte : first_at eight 0 ≡ first_byte marks i
+  -- eight marks that are these give the byte of those blocks
+  pub byte_of_eight : (l : List ℕ) (r : ℕ) → get_or l 0 0 ≡ get_or marks (8 * i) 0 → get_or l 1 0 ≡ get_or marks (8 * i + 1) 0
+      → get_or l 2 0 ≡ get_or marks (8 * i + 2) 0 → get_or l 3 0 ≡ get_or marks (8 * i + 3) 0 → get_or l 4 0 ≡ get_or marks (8 * i + 4) 0
+      → get_or l 5 0 ≡ get_or marks (8 * i + 5) 0 → get_or l 6 0 ≡ get_or marks (8 * i + 6) 0 → get_or l 7 0 ≡ get_or marks (8 * i + 7) 0
+      → r ≡ first_at l 0 → r ≡ first_byte marks i
   unfolding first_byte
-  eight_byte =
-      let e₀ = entry 0 (4 * i) (omega arith) (omega arith) in
-      let e₁ = entry 1 (4 * i + 1) (omega arith) (omega arith) in
-      let e₂ = entry 2 (4 * i + 2) (omega arith) (omega arith) in
-      let e₃ = entry 3 (4 * i + 3) (omega arith) (omega arith) in
-      omega (arith, e₀, e₁, e₂, e₃)
+  byte_of_eight l r m₀ m₁ m₂ m₃ m₄ m₅ m₆ m₇ er =
+      let place : (p q : ℕ) → p ≡ q → get_or marks p 0 ≡ get_or marks q 0 = λ p q e. ap (λ (n : ℕ). get_or marks n 0) e in
+      let e₀ : mark_entry (get_or l 0 0) (get_or l 1 0) ≡ first_entry marks (4 * i) = ap₂ mark_entry (m₀ ∙ place _ _ (omega arith)) (m₁ ∙ place _ _ (omega arith)) in
+      let e₁ : mark_entry (get_or l 2 0) (get_or l 3 0) ≡ first_entry marks (4 * i + 1) = ap₂ mark_entry (m₂ ∙ place _ _ (omega arith)) (m₃ ∙ place _ _ (omega arith)) in
+      let e₂ : mark_entry (get_or l 4 0) (get_or l 5 0) ≡ first_entry marks (4 * i + 2) = ap₂ mark_entry (m₄ ∙ place _ _ (omega arith)) (m₅ ∙ place _ _ (omega arith)) in
+      let e₃ : mark_entry (get_or l 6 0) (get_or l 7 0) ≡ first_entry marks (4 * i + 3) = ap₂ mark_entry (m₆ ∙ place _ _ (omega arith)) (m₇ ∙ place _ _ (omega arith)) in
+      er ∙ omega (arith, e₀, e₁, e₂, e₃)
+
+  -- eight marks asked one by one, at these places: what edits of the loop go by
+  pub byte_at_places : (p₀ p₁ p₂ p₃ p₄ p₅ p₆ p₇ r : ℕ) → r ≡ first_at (get_or marks p₀ 0 ∷ get_or marks p₁ 0 ∷ get_or marks p₂ 0 ∷ get_or marks p₃ 0 ∷ get_or marks p₄ 0 ∷ get_or marks p₅ 0 ∷ get_or marks p₆ 0 ∷ get_or marks p₇ 0 ∷ []) 0
+      → p₀ ≡ 8 * i → p₁ ≡ 8 * i + 1 → p₂ ≡ 8 * i + 2 → p₃ ≡ 8 * i + 3 → p₄ ≡ 8 * i + 4 → p₅ ≡ 8 * i + 5 → p₆ ≡ 8 * i + 6 → p₇ ≡ 8 * i + 7 → r ≡ first_byte marks i
+  byte_at_places p₀ p₁ p₂ p₃ p₄ p₅ p₆ p₇ r er e₀ e₁ e₂ e₃ e₄ e₅ e₆ e₇ =
+      let mark : (p q : ℕ) → p ≡ q → get_or marks p 0 ≡ get_or marks q 0 = λ p q e. ap (λ (n : ℕ). get_or marks n 0) e in
+      byte_of_eight (get_or marks p₀ 0 ∷ get_or marks p₁ 0 ∷ get_or marks p₂ 0 ∷ get_or marks p₃ 0 ∷ get_or marks p₄ 0 ∷ get_or marks p₅ 0 ∷ get_or marks p₆ 0 ∷ get_or marks p₇ 0 ∷ []) r (mark _ _ e₀) (mark _ _ e₁) (mark _ _ e₂) (mark _ _ e₃) (mark _ _ e₄) (mark _ _ e₅) (mark _ _ e₆) (mark _ _ e₇) er
 
   -- what is stored for them
   pub stored_byte : (eights : List (List ℕ)) (r : ℕ) → eights ≡ first_chunks 8 (length marks / 8) marks → r ≡ first_at (get_or eights i []) 0 → r ≡ first_byte marks i
   unfolding eight
-  stored_byte eights r e er = er ∙ ap (λ (l : List (List ℕ)). first_at (get_or l i []) 0) e ∙ eight_byte
+  stored_byte eights r e er =
+      let part : (k p : ℕ) → k < 8 → p ≡ 8 * i + k → get_or eight k 0 ≡ get_or marks p 0 = λ k p hk q. part_at 8 (length marks / 8) marks i k p h hk (omega (arith, q)) in
+      byte_of_eight eight r (part 0 _ (omega arith) (omega arith)) (part 1 _ (omega arith) refl) (part 2 _ (omega arith) refl) (part 3 _ (omega arith) refl)
+      (part 4 _ (omega arith) refl) (part 5 _ (omega arith) refl) (part 6 _ (omega arith) refl) (part 7 _ (omega arith) refl)
+      (er ∙ ap (λ (l : List (List ℕ)). first_at (get_or l i []) 0) e)
+
+-- a turn of the loop: the byte at i is stored beside those before it
+pub filled_turn : (f : ℕ → ℕ) (l : List ℕ) (n i r : ℕ) → (length l ≡ n) × ((k : ℕ) → k < i → get_or l k 0 ≡ f k) → i < n → r ≡ f i
+    → (length (set l i r) ≡ n) × ((k : ℕ) → k < i + 1 → get_or (set l i r) k 0 ≡ f k)
+filled_turn f l n i r h b e = grind (arith, common_steps)
 
 -- ---- what is answered, and the room after it
 module _ (n size : ℕ) (marks room : List ℕ) where

@@ -102,13 +102,13 @@ impl<'a> Call<'a> {
         }
     }
 
-    // The wanted bitmap; of a recovery no bytes.
-    fn wanted(self) -> &'a [u8]
+    // The wanted bitmap; of a recovery no bytes. They are the image's: `&[]` is a constant, and archives for kernels have none.
+    fn wanted(self, image: &'a [u8]) -> &'a [u8]
         ensures { result.now ≡ wanted_of (call_of self.entry) }
     {
         match self {
             Call::Update(wanted) => wanted,
-            Call::Recovery => &[],
+            Call::Recovery => &image[..0],
         }
     }
 
@@ -274,12 +274,12 @@ impl<'a> Task<'a> {
 // (A part of both its callers: out of line, work and plan come back through memory, in bytes that are read as words, which is slower.)
 #[tactic(auto, using(crate::proofs::Answering::answer_out, crate::proofs::Answering::answer_no_work, crate::proofs::Answering::answer_work, crate::proofs::Working::call_placed))]
 #[inline(always)]
-fn planned(
+fn planned<'a>(
     n: u64,
     size: u64,
-    image: &[u8],
-    status: &[u8],
-    call: Call<'_>,
+    image: &'a [u8],
+    status: &'a [u8],
+    call: Call<'a>,
     failed: &[u8],
 ) -> Result<Plan, Refusal>
     ensures { result ≡ plan_answer n size (call_of call.entry) image.now status.now failed.now }
@@ -288,7 +288,7 @@ fn planned(
     let work = call.work(region)?;
     let task = Task {
         region,
-        wanted: call.wanted(),
+        wanted: call.wanted(image),
         work,
     };
     task.plan_after(failed)
@@ -326,12 +326,12 @@ pub fn recovery_plan(
 // (A part of both its callers, as `planned` is.)
 #[tactic(auto, using(crate::proofs::Working::call_placed, crate::proofs::Asking::no_room_out_answer, crate::proofs::Asking::no_room_out_after, crate::proofs::Asking::no_room_answer, crate::proofs::Asking::no_room_after, crate::proofs::Asking::page_out_answer, crate::proofs::Asking::page_out_after, crate::proofs::Asking::page_no_work_answer, crate::proofs::Asking::page_no_work_after, crate::proofs::Asking::page_work_answer, crate::proofs::Asking::page_work_after))]
 #[inline(always)]
-fn page_planned(
+fn page_planned<'a>(
     n: u64,
     size: u64,
-    image: &[u8],
-    status: &[u8],
-    call: Call<'_>,
+    image: &'a [u8],
+    status: &'a [u8],
+    call: Call<'a>,
     failed: &[u8],
     step: u64,
     page: &mut [u8],
@@ -347,7 +347,7 @@ fn page_planned(
     let work = call.work(region)?;
     let task = Task {
         region,
-        wanted: call.wanted(),
+        wanted: call.wanted(image),
         work,
     };
     task.page(failed, step, page)

@@ -27,13 +27,16 @@ fn part_length(chip: LargeChip, p: u8) -> usize
         .min(LargeChip::PAGE)
 }
 
-// The part of a bitmap that page p of region block b holds, as a part of the image; empty where the image is too short.
+// The part of a bitmap that page p of region block b holds, as a part of the image; empty where the image is too short. The empty one is the
+// image's too: `&[]` is a constant, and archives for kernels have none.
 #[tactic(auto, unfolding(crate::specs::Parts::part_of))]
 pub fn part(chip: LargeChip, image: &[u8], b: RegionBlock, p: u8) -> &[u8]
     ensures { result.now ≡ part_of chip image.now b.0 p }
 {
     let at = page_start(chip, b, p);
-    image.get(at..at + part_length(chip, p)).unwrap_or(&[])
+    image
+        .get(at..at + part_length(chip, p))
+        .unwrap_or(&image[..0])
 }
 
 // The version that a block's first page shows; 0 where the image is too short.

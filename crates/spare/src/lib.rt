@@ -32,7 +32,8 @@ const TAGS: [u8; 7] = [0xFF, 0x67, 0x06, 0x79, 0x18, 0x1F, 0x01];
 pub fn nearest_tag(byte: u8) -> Option<u8>
     ensures { result ≡ nearest tags byte }
 {
-    TAGS.iter()
+    let tags = TAGS;
+    tags.iter()
         .find(|t| (**t ^ byte).count_ones() <= 1)
         .copied()
 }
@@ -191,7 +192,7 @@ fn spare_of(bytes: &[u8; SmallChip::PAGE], tag: u8, path: u32, count: u32) -> [u
 }
 
 // Writes the spare of a page.
-#[tactic(auto, using(crate::proofs::Writables::writable_fits), unfolding(crate::specs::Writing::write_answer, crate::specs::Writing::spare_after))]
+#[tactic(auto, using(crate::proofs::Writables::writable_fits, bits::proofs::Filling::copied_same), unfolding(crate::specs::Writing::write_answer, crate::specs::Writing::spare_after))]
 pub fn write_spare(
     bytes: &[u8],
     tag: u64,
@@ -211,6 +212,9 @@ pub fn write_spare(
     if !is_writable(tag, path, count) {
         return Err(Refusal::Range);
     }
-    spare.copy_from_slice(&spare_of(bytes, tag as u8, path as u32, count as u32));
+    bits::copy(
+        &spare_of(bytes, tag as u8, path as u32, count as u32),
+        spare,
+    );
     Ok(())
 }
