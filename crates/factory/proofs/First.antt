@@ -33,6 +33,10 @@ module _ (marks : List ℕ) (i : ℕ) (h : i < length marks / 8) where
   eight : List ℕ
   eight = get_or (first_chunks 8 (length marks / 8) marks) i []
 
+  -- a mark by its place
+  mark : (p q : ℕ) → p ≡ q → get_or marks p 0 ≡ get_or marks q 0
+  mark p q e = ap (λ (n : ℕ). get_or marks n 0) e
+
   -- eight marks that are these give the byte of those blocks
   pub byte_of_eight : (l : List ℕ) (r : ℕ) → get_or l 0 0 ≡ get_or marks (8 * i) 0 → get_or l 1 0 ≡ get_or marks (8 * i + 1) 0
       → get_or l 2 0 ≡ get_or marks (8 * i + 2) 0 → get_or l 3 0 ≡ get_or marks (8 * i + 3) 0 → get_or l 4 0 ≡ get_or marks (8 * i + 4) 0
@@ -40,18 +44,16 @@ module _ (marks : List ℕ) (i : ℕ) (h : i < length marks / 8) where
       → r ≡ first_at l 0 → r ≡ first_byte marks i
   unfolding first_byte
   byte_of_eight l r m₀ m₁ m₂ m₃ m₄ m₅ m₆ m₇ er =
-      let place : (p q : ℕ) → p ≡ q → get_or marks p 0 ≡ get_or marks q 0 = λ p q e. ap (λ (n : ℕ). get_or marks n 0) e in
-      let e₀ : mark_entry (get_or l 0 0) (get_or l 1 0) ≡ first_entry marks (4 * i) = ap₂ mark_entry (m₀ ∙ place _ _ (omega arith)) (m₁ ∙ place _ _ (omega arith)) in
-      let e₁ : mark_entry (get_or l 2 0) (get_or l 3 0) ≡ first_entry marks (4 * i + 1) = ap₂ mark_entry (m₂ ∙ place _ _ (omega arith)) (m₃ ∙ place _ _ (omega arith)) in
-      let e₂ : mark_entry (get_or l 4 0) (get_or l 5 0) ≡ first_entry marks (4 * i + 2) = ap₂ mark_entry (m₄ ∙ place _ _ (omega arith)) (m₅ ∙ place _ _ (omega arith)) in
-      let e₃ : mark_entry (get_or l 6 0) (get_or l 7 0) ≡ first_entry marks (4 * i + 3) = ap₂ mark_entry (m₆ ∙ place _ _ (omega arith)) (m₇ ∙ place _ _ (omega arith)) in
+      let e₀ : mark_entry (get_or l 0 0) (get_or l 1 0) ≡ first_entry marks (4 * i) = ap₂ mark_entry (m₀ ∙ mark _ _ (omega arith)) (m₁ ∙ mark _ _ (omega arith)) in
+      let e₁ : mark_entry (get_or l 2 0) (get_or l 3 0) ≡ first_entry marks (4 * i + 1) = ap₂ mark_entry (m₂ ∙ mark _ _ (omega arith)) (m₃ ∙ mark _ _ (omega arith)) in
+      let e₂ : mark_entry (get_or l 4 0) (get_or l 5 0) ≡ first_entry marks (4 * i + 2) = ap₂ mark_entry (m₄ ∙ mark _ _ (omega arith)) (m₅ ∙ mark _ _ (omega arith)) in
+      let e₃ : mark_entry (get_or l 6 0) (get_or l 7 0) ≡ first_entry marks (4 * i + 3) = ap₂ mark_entry (m₆ ∙ mark _ _ (omega arith)) (m₇ ∙ mark _ _ (omega arith)) in
       er ∙ omega (arith, e₀, e₁, e₂, e₃)
 
   -- eight marks asked one by one, at these places: what edits of the loop go by
   pub byte_at_places : (p₀ p₁ p₂ p₃ p₄ p₅ p₆ p₇ r : ℕ) → r ≡ first_at (get_or marks p₀ 0 ∷ get_or marks p₁ 0 ∷ get_or marks p₂ 0 ∷ get_or marks p₃ 0 ∷ get_or marks p₄ 0 ∷ get_or marks p₅ 0 ∷ get_or marks p₆ 0 ∷ get_or marks p₇ 0 ∷ []) 0
       → p₀ ≡ 8 * i → p₁ ≡ 8 * i + 1 → p₂ ≡ 8 * i + 2 → p₃ ≡ 8 * i + 3 → p₄ ≡ 8 * i + 4 → p₅ ≡ 8 * i + 5 → p₆ ≡ 8 * i + 6 → p₇ ≡ 8 * i + 7 → r ≡ first_byte marks i
   byte_at_places p₀ p₁ p₂ p₃ p₄ p₅ p₆ p₇ r er e₀ e₁ e₂ e₃ e₄ e₅ e₆ e₇ =
-      let mark : (p q : ℕ) → p ≡ q → get_or marks p 0 ≡ get_or marks q 0 = λ p q e. ap (λ (n : ℕ). get_or marks n 0) e in
       byte_of_eight (get_or marks p₀ 0 ∷ get_or marks p₁ 0 ∷ get_or marks p₂ 0 ∷ get_or marks p₃ 0 ∷ get_or marks p₄ 0 ∷ get_or marks p₅ 0 ∷ get_or marks p₆ 0 ∷ get_or marks p₇ 0 ∷ []) r (mark _ _ e₀) (mark _ _ e₁) (mark _ _ e₂) (mark _ _ e₃) (mark _ _ e₄) (mark _ _ e₅) (mark _ _ e₆) (mark _ _ e₇) er
 
   -- what is stored for them
